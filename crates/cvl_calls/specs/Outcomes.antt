@@ -1,0 +1,66 @@
+-- What a call makes of its operands, and what is replied.
+use Rattle.std.specs.Prelude.{◌≡◌, ◌≤◌, ℤ, Bool, List, map, Option, Result, Ok, Err, if◌then◌else◌}
+use Rattle.vector_memory.specs.Contents.{Content, content_of, size_of}
+use Rattle.vector_memory.specs.States.{State, value_at, item_limit}
+use Rattle.cvl_calls.specs.declared.fault.Fault.{Fault}
+use Rattle.cvl_calls.specs.declared.fault.Stop.{Stop}
+use Rattle.cvl_calls.specs.declared.fault.Stop.TheVariants as stops
+use Rattle.cvl_calls.specs.declared.reply.Reply.{Reply}
+use Rattle.cvl_calls.specs.declared.reply.Reply.TheVariants as replies
+use Rattle.cvl_calls.specs.declared.work.Product.{Product}
+use Rattle.cvl_calls.specs.declared.work.Product.TheVariants as products
+use Rattle.cvl_calls.specs.Tasks.{Argument, Vector, Numbers}
+
+-- an argument, with what the memory holds in place of a name
+pub data Operand : Type 0 where
+  Held : Option Content → Operand
+  NumbersGiven : List ℤ → Operand
+
+abbrev pub operand_of : State → Argument → Operand
+operand_of m (Vector n) = Held (value_at m n)
+operand_of m (Numbers xs) = NumbersGiven xs
+
+abbrev pub operands_of : State → List Argument → List Operand
+operands_of m arguments = map (operand_of m) arguments
+
+-- a reply, apart from where it lies
+pub data Answer : Type 0 where
+  Done : Answer
+  VectorOf : Content → Answer
+  FaultOf : Fault → Answer
+
+abbrev pub answer_of : Reply → Answer
+answer_of replies.Done = Done
+answer_of (replies.Vector v) = VectorOf (content_of v)
+answer_of (replies.Fault f) = FaultOf f
+
+-- what the operands alone decide: a value for the target, or a reply
+pub data Effect : Type 0 where
+  Stores : Content → Effect
+  Answers : Answer → Effect
+
+abbrev pub effect_of : Product → Effect
+effect_of (products.Store v) = Stores (content_of v)
+effect_of (products.Reply r) = Answers (answer_of r)
+
+-- a value to store has no more items than a value may have
+abbrev pub IsShortEffect : Effect → Type 0
+IsShortEffect (Stores v) = size_of v ≤ item_limit
+IsShortEffect (Answers a) = Unit {0}
+
+infixl 10 ◌>>=◌
+abbrev pub ◌>>=◌ : {A B : Type 0} → Result A Fault → (A → Result B Fault) → Result B Fault
+(Ok x) >>= f = f x
+(Err e) >>= f = Err e
+
+abbrev pub check : Bool → Fault → Result (Unit {0}) Fault
+check holds fault = if holds then Ok tt else Err fault
+
+-- What a function returned, seen by view, is what the definition says, unless memory ran out.
+abbrev pub Fails : {Y : Type 0} → Stop → Result Y Fault → Type 0
+Fails stops.OutOfMemory said = Unit {0}
+Fails (stops.Fault f) said = said ≡ Err f
+
+abbrev pub Gives : {X Y : Type 0} → (X → Y) → Result X Stop → Result Y Fault → Type 0
+Gives view (Ok x) said = said ≡ Ok (view x)
+Gives view (Err e) said = Fails e said

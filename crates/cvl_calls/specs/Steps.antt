@@ -1,0 +1,45 @@
+-- One step of the machine.
+use Rattle.std.specs.Prelude.{Option, Some, None, Result, Ok, Err}
+use Rattle.vector_memory.specs.declared.name.Name.{Name}
+use Rattle.vector_memory.specs.declared.memory.StoreFault.{StoreFault}
+use Rattle.vector_memory.specs.declared.memory.StoreFault.TheVariants as refusals
+use Rattle.vector_memory.specs.Contents.{Content}
+use Rattle.vector_memory.specs.States.{State, refusal, put}
+use Rattle.cvl_calls.specs.declared.fault.Fault.{Fault}
+use Rattle.cvl_calls.specs.declared.fault.Fault.TheVariants.{NoRoom, TooManyNames}
+use Rattle.cvl_calls.specs.Tasks.{Task}
+use Rattle.cvl_calls.specs.Outcomes.{Answer, Done, FaultOf, Effect, Stores, Answers, operands_of}
+use Rattle.cvl_calls.specs.Work.{work}
+
+-- a memory and a reply
+pub record Stepped : Type 0 where
+  pub memory : State
+  pub answer : Answer
+
+-- the name that a call writes or frees
+abbrev pub target : Task → Option Name
+target t = t.to
+
+-- the reply to a store that is refused
+abbrev pub refused : State → Option StoreFault → State → Stepped
+refused m None stored = record { memory = stored; answer = Done }
+refused m (Some refusals.NoRoom) stored = record { memory = m; answer = FaultOf NoRoom }
+refused m (Some refusals.TooManyNames) stored = record { memory = m; answer = FaultOf TooManyNames }
+refused m (Some refusals.OutOfMemory) stored = record { memory = m; answer = Done }
+
+abbrev pub stored : State → Name → Content → Stepped
+stored m n v = refused m (refusal m n v) (put m n v)
+
+-- what an effect makes of the memory
+abbrev pub applied : State → Option Name → Effect → Stepped
+applied m to (Answers a) = record { memory = m; answer = a }
+applied m (Some n) (Stores v) = stored m n v
+applied m None (Stores v) = record { memory = m; answer = Done }
+
+-- a fault is a reply, and changes nothing
+abbrev pub followed : State → Option Name → Result Effect Fault → Stepped
+followed m to (Ok effect) = applied m to effect
+followed m to (Err fault) = record { memory = m; answer = FaultOf fault }
+
+abbrev pub stepped : State → Task → Stepped
+stepped m t = followed m (target t) (work t.word (operands_of m t.arguments))

@@ -1,0 +1,33 @@
+-- What a call asks for, apart from where it lies: a word, a target and arguments.
+use Rattle.std.specs.Prelude.{ℤ, List, [], ◌∷◌, Option, Some, None, filter_map}
+use Rattle.vector_memory.specs.declared.name.Name.{Name}
+use Rattle.cvl_calls.specs.declared.word.Word.{Word}
+use Rattle.cvl_calls.specs.declared.word.Word.TheVariants as words
+use Rattle.cvl_calls.specs.declared.call.Call.{Call}
+use Rattle.cvl_calls.specs.declared.call.Call.TheVariants as calls
+
+pub data Argument : Type 0 where
+  -- a name that is read
+  Vector : Name → Argument
+  -- all that a set form sets
+  Numbers : List ℤ → Argument
+
+pub record Task : Type 0 where
+  pub word : Word
+  -- the name before `=`, if there is one
+  pub to : Option Name
+  pub arguments : List Argument
+
+abbrev pub task_of : Call → Task
+task_of (calls.SetInts to items) = record { word = words.SetInts; to = Some to; arguments = Numbers items.items ∷ [] }
+task_of (calls.Get a) = record { word = words.Get; to = None; arguments = Vector a ∷ [] }
+task_of (calls.MapZ2 to op a b) = record { word = words.MapZ2 op; to = Some to; arguments = Vector a ∷ Vector b ∷ [] }
+task_of (calls.ScanOfZ to op a) = record { word = words.ScanZ op; to = Some to; arguments = Vector a ∷ [] }
+
+abbrev pub name_in : Argument → Option Name
+name_in (Vector n) = Some n
+name_in (Numbers xs) = None
+
+-- the names that are read, from left to right
+abbrev pub reads : Task → List Name
+reads t = filter_map name_in t.arguments

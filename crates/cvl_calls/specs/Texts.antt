@@ -1,0 +1,36 @@
+-- How values and replies are written.
+use Rattle.std.specs.Prelude.{◌≡◌, ℕ, ℤ, List, [], ◌∷◌, ◌++◌, codes}
+use Rattle.std.specs.List.{flat_map}
+use Rattle.std.specs.Fmt.{signed_decimal}
+use Rattle.vector_memory.specs.Contents.{Content, Ints}
+use Rattle.cvl_calls.specs.declared.fault.Fault.{Fault}
+use Rattle.cvl_calls.specs.declared.fault.Fault.TheVariants as faults
+use Rattle.cvl_calls.specs.Outcomes.{Answer, Done, VectorOf, FaultOf}
+
+-- a space and the number
+abbrev pub number_item : ℤ → List ℕ
+number_item x = 32 ∷ signed_decimal x
+
+abbrev pub value_text : Content → List ℕ
+value_text (Ints xs) = 122 ∷ flat_map number_item xs
+
+abbrev pub fault_text : Fault → List ℕ
+fault_text faults.NoVector = codes "fault 1"
+fault_text faults.WrongType = codes "fault 2"
+fault_text faults.WrongLength = codes "fault 3"
+fault_text faults.BadSegments = codes "fault 4"
+fault_text faults.BadIndex = codes "fault 5"
+fault_text faults.ZeroDivisor = codes "fault 6"
+fault_text faults.BadShift = codes "fault 7"
+fault_text faults.TooLong = codes "fault 8"
+fault_text faults.NoRoom = codes "fault 9"
+fault_text faults.TooManyNames = codes "fault 10"
+
+abbrev pub answer_text : Answer → List ℕ
+answer_text Done = codes "ok"
+answer_text (VectorOf v) = value_text v
+answer_text (FaultOf f) = fault_text f
+
+-- new is old, with something behind it
+abbrev pub Begins : List ℕ → List ℕ → Type 0
+Begins old new = (more : List ℕ) × (new ≡ old ++ more)

@@ -1,0 +1,59 @@
+-- The work of each call word: its result, or the first fault, from the operands alone.
+use Rattle.std.specs.Prelude.{ℕ, ℤ, List, length, Some, None, Result, Ok, Err, nat_le, ◌==◌, unwrap_or, slice_get}
+use Rattle.vector_memory.specs.Contents.{Content, Ints, size_of}
+use Rattle.vector_memory.specs.States.{item_limit}
+use Rattle.cvl_calls.specs.declared.fault.Fault.{Fault}
+use Rattle.cvl_calls.specs.declared.fault.Fault.TheVariants.{NoVector, WrongType, WrongLength, TooLong}
+use Rattle.cvl_calls.specs.declared.word.Word.{Word}
+use Rattle.cvl_calls.specs.declared.word.Word.TheVariants as words
+use Rattle.cvl_calls.specs.declared.word.Z2.{Z2}
+use Rattle.cvl_calls.specs.declared.word.ScanZ.{ScanZ}
+use Rattle.cvl_calls.specs.Operations.{map_z, scan_z}
+use Rattle.cvl_calls.specs.Outcomes.{Operand, Held, NumbersGiven, Effect, Stores, Answers, VectorOf, ◌>>=◌, check}
+
+-- the operand at a place
+abbrev pub operand : List Operand → ℕ → Operand
+operand operands i = unwrap_or (slice_get operands i) (Held None)
+
+-- a value of any type
+abbrev pub any_value : Operand → Result Content Fault
+any_value (Held (Some v)) = Ok v
+any_value (Held None) = Err NoVector
+any_value (NumbersGiven xs) = Err WrongType
+
+abbrev pub ints_in : Content → Result (List ℤ) Fault
+ints_in (Ints xs) = Ok xs
+
+-- a vector of integers
+abbrev pub ints : Operand → Result (List ℤ) Fault
+ints o = any_value o >>= ints_in
+
+abbrev pub set_ints : Operand → Result Effect Fault
+set_ints (NumbersGiven xs) = do
+  fits ← check (nat_le (length xs) item_limit) TooLong
+  Ok (Stores (Ints xs))
+set_ints (Held v) = Err WrongType
+
+unfoldable pub get : Operand → Result Effect Fault
+get a = do
+  v ← any_value a
+  Ok (Answers (VectorOf v))
+
+unfoldable pub map_ints : Z2 → Operand → Operand → Result Effect Fault
+map_ints op a b = do
+  xs ← ints a
+  ys ← ints b
+  same ← check (length xs == length ys) WrongLength
+  Ok (Stores (Ints (map_z op xs ys)))
+
+unfoldable pub scan_ints : ScanZ → Operand → Result Effect Fault
+scan_ints op a = do
+  xs ← ints a
+  Ok (Stores (Ints (scan_z op xs)))
+
+-- the result of a call, or its first fault
+abbrev pub work : Word → List Operand → Result Effect Fault
+work words.SetInts os = set_ints (operand os 0)
+work words.Get os = get (operand os 0)
+work (words.MapZ2 op) os = map_ints op (operand os 0) (operand os 1)
+work (words.ScanZ op) os = scan_ints op (operand os 0)

@@ -1,0 +1,57 @@
+ghost use Rattle.std.specs.Prelude.{◌≡◌, ◌≤◌, IfOk, OnErr};
+ghost use Rattle.vector_memory.specs.Contents.{content_of, size_of};
+ghost use Rattle.vector_memory.specs.States.{item_limit};
+ghost use Rattle.cvl_calls.specs.Tasks.{task_of};
+ghost use Rattle.cvl_calls.specs.Outcomes.{answer_of, effect_of, IsShortEffect};
+ghost use Rattle.cvl_calls.specs.Steps.{Stepped, applied, stepped, stored};
+
+use crate::call::{Call, target};
+use crate::fault::{Fault, Stop};
+use crate::reply::Reply;
+use crate::work::{Product, work};
+use std::alloc::Global;
+use vector_memory::{Memory, Name, OutOfMemory, StoreFault, Value};
+
+fn store(memory: &mut Memory, to: Name, value: Value) -> Result<Reply, OutOfMemory>
+    requires { size_of (content_of value) ≤ item_limit }
+    ensures ok { IfOk result (λ reply. stored memory.old to (content_of value)
+        ≡ record { memory = memory.new; answer = answer_of reply }) }
+    ensures err { OnErr result (memory.new ≡ memory.old) }
+{
+    match memory.store(to, value) {
+        Ok(()) => Ok(Reply::Done),
+        Err(StoreFault::NoRoom) => Ok(Reply::Fault(Fault::NoRoom)),
+        Err(StoreFault::TooManyNames) => Ok(Reply::Fault(Fault::TooManyNames)),
+        Err(StoreFault::OutOfMemory) => Err(OutOfMemory),
+    }
+}
+
+/// Does to the memory what a call made of its operands.
+pub fn apply(memory: &mut Memory, to: Option<Name>, product: Product) -> Result<Reply, OutOfMemory>
+    requires { IsShortEffect (effect_of product) }
+    ensures ok { IfOk result (λ reply. applied memory.old to (effect_of product)
+        ≡ record { memory = memory.new; answer = answer_of reply }) }
+    ensures err { OnErr result (memory.new ≡ memory.old) }
+{
+    match product {
+        Product::Reply(reply) => Ok(reply),
+        Product::Store(value) => match to {
+            Some(to) => store(memory, to, value),
+            None => Ok(Reply::Done),
+        },
+    }
+}
+
+/// One step of the machine.
+pub fn step(alloc: Global, memory: &mut Memory, call: &Call) -> Result<Reply, OutOfMemory>
+    ensures ok { IfOk result (λ reply. stepped memory.old (task_of call.now)
+        ≡ record { memory = memory.new; answer = answer_of reply }) }
+    ensures err { OnErr result (memory.new ≡ memory.old) }
+{
+    let _room = memory.room();
+    match work(alloc, memory, call) {
+        Ok(product) => apply(memory, target(call), product),
+        Err(Stop::Fault(fault)) => Ok(Reply::Fault(fault)),
+        Err(Stop::OutOfMemory) => Err(OutOfMemory),
+    }
+}

@@ -1,0 +1,12 @@
+//! Named vectors in one memory: distinct names in the order in which they came, each with a value, within a room.
+//! A name's value is replaced in place, and a refused store changes nothing.
+#![tactic(auto)]
+
+mod memory;
+mod name;
+mod value;
+
+pub use memory::{ITEM_LIMIT, Memory, NAME_LIMIT, ROOM_LIMIT, StoreFault};
+pub use name::Name;
+pub use segment_desc::OutOfMemory;
+pub use value::Value;

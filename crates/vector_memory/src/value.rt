@@ -1,0 +1,30 @@
+ghost use Rattle.std.specs.Prelude.{◌≡◌, IfOk};
+ghost use Rattle.vector_memory.specs.Contents.{content_of, size_of};
+
+use segment_desc::OutOfMemory;
+
+/// What a name stands for.
+#[derive(Debug, Drop)]
+pub enum Value {
+    Ints(Vec<i64>),
+}
+
+impl Value {
+    /// The number of items.
+    pub fn size(&self) -> usize
+        ensures { result ≡ size_of (content_of self.now) }
+    {
+        match self {
+            Value::Ints(items) => items.len(),
+        }
+    }
+
+    /// A copy of the value.
+    pub fn try_copy(&self) -> Result<Value, OutOfMemory>
+        ensures { IfOk result (λ copy. content_of copy ≡ content_of self.now) }
+    {
+        Ok(match self {
+            Value::Ints(items) => Value::Ints(items.clone()?),
+        })
+    }
+}
