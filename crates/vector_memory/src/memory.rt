@@ -1,4 +1,4 @@
-ghost use Rattle.std.specs.Prelude.{◌≡◌, ℕ, ◌≤◌, ◌<◌, [], Ok, Err, length, OnOk, OnErr, is_some};
+ghost use Rattle.std.specs.Prelude.{◌≡◌, ℕ, ◌≤◌, ◌<◌, [], Ok, Err, length, IfOk, OnOk, OnErr, is_some};
 ghost use Rattle.std.specs.Map.Iter.{ShowsInOrder, deref_pair};
 ghost use Rattle.std.specs.Option.{option_map, option_copied};
 ghost use Rattle.vector_memory.specs.Contents.{content_of, size_of};
@@ -6,6 +6,7 @@ ghost use Rattle.vector_memory.specs.Contents.{content_of, size_of};
 use crate::{Name, Value};
 use indexmap::IndexMap;
 use indexmap::map::Iter;
+use segment_desc::OutOfMemory;
 use std::alloc::Global;
 use std::marker::Model;
 use thiserror::Error;
@@ -52,18 +53,18 @@ impl Model for Memory {
 }
 
 impl Memory {
-    ghost use Rattle.vector_memory.specs.States.{State, IsLawful, value_at, cells_of, old_size, refusal, put, without, contents, IsJudged, room_limit, item_limit};
+    ghost use Rattle.vector_memory.specs.States.{State, IsLawful, value_at, cells_of, old_size, refusal, put, without, contents, IsJudged, IsLawfulRoom, empty, item_limit};
 
     /// A memory without values.
-    pub fn new(alloc: Global, room: u64) -> Memory
-        requires { room ≤ room_limit }
-        ensures { result ≡ record { entries = []; room = room } }
+    pub fn new(alloc: Global, room: u64) -> Result<Memory, OutOfMemory>
+        requires { IsLawfulRoom room }
+        ensures { IfOk result (λ memory. memory ≡ empty room) }
     {
-        Memory {
-            values: IndexMap::new(alloc),
+        Ok(Memory {
+            values: IndexMap::with_capacity(alloc, 16)?,
             cells: 0,
             room,
-        }
+        })
     }
 
     /// The value of a name.

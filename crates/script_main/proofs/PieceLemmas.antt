@@ -1,0 +1,100 @@
+-- The lines of a script, cut at its line feeds.
+-- `pieces-line`: a line and its line feed are the first piece; `one-piece`: a text with no line feed is one piece;
+-- `lines_of-line`, `lines_of-last`, `lines_of-long` say the same of lines.
+use Rattle.std.proofs.Common.{◌≡◌, ℕ, suc, ◌+◌, ◌<◌, Bool, true, false, eqb, not, ◌&&◌, List, [], ◌∷◌, ◌++◌, length, refl, sym, ap, ◌∙◌, arith, append_assoc}
+use Rattle.std.specs.List.{list_all}
+use Rattle.std.proofs.lemmas.List.{length-append}
+use Rattle.std.proofs.lemmas.Bool.{lt-ltb}
+use Rattle.std.proofs.Math.Dec.{eqb-suc-zero}
+use Rattle.script_main.specs.Scripts.{Bad, IsOneLine, onto_first, pieces, but_empty_last, lines_of, line_of, line_limit}
+
+no-feed-by : (t r : Bool) → not t && r ≡ true → (t ≡ false) × (r ≡ true)
+no-feed-by true r h = absurd cc
+no-feed-by false r h = (refl, h)
+
+no-feed-first : (b : ℕ) (bs : List ℕ) → IsOneLine (b ∷ bs) → (eqb b 10 ≡ false) × IsOneLine bs
+no-feed-first b bs h = no-feed-by (eqb b 10) (list_all (λ c. not (eqb c 10)) bs) h
+
+pub IsOneLine-append : (text more : List ℕ) → IsOneLine text → IsOneLine more → IsOneLine (text ++ more)
+IsOneLine-append [] more h k = k
+IsOneLine-append (b ∷ bs) more h k =
+    let first = no-feed-first b bs h in
+    let rest = IsOneLine-append bs more first.1 k in
+    rw (first.0, rest) refl
+
+pub pieces-line : (line more : List ℕ) → IsOneLine line → pieces (line ++ 10 ∷ more) ≡ line ∷ pieces more
+pieces-line [] more h = refl
+pieces-line (b ∷ bs) more h =
+    let first = no-feed-first b bs h in
+    rw first.0 (ap (onto_first b) (pieces-line bs more first.1))
+
+pub one-piece : (text : List ℕ) → IsOneLine text → pieces text ≡ text ∷ []
+one-piece [] h = refl
+one-piece (b ∷ bs) h =
+    let first = no-feed-first b bs h in
+    rw first.0 (ap (onto_first b) (one-piece bs first.1))
+
+pub pieces-some : (text : List ℕ) → (l : List ℕ) × (ls : List (List ℕ)) × (pieces text ≡ l ∷ ls)
+pieces-some [] = ([], [], refl)
+pieces-some (b ∷ bs) = by (eqb b 10) refl (pieces-some bs)
+  where
+    by : (t : Bool) → eqb b 10 ≡ t → (l : List ℕ) × (ls : List (List ℕ)) × (pieces bs ≡ l ∷ ls) → (l : List ℕ) × (ls : List (List ℕ)) × (pieces (b ∷ bs) ≡ l ∷ ls)
+    by true e p = ([], pieces bs, rw e refl)
+    by false e p = (b ∷ p.0, p.1, rw e (ap (onto_first b) p.2))
+
+-- what comes behind a text with no line feed may go on with its piece
+long-piece : (text more : List ℕ) → IsOneLine text → (l : List ℕ) × (ls : List (List ℕ)) × (pieces (text ++ more) ≡ (text ++ l) ∷ ls)
+long-piece [] more h = pieces-some more
+long-piece (b ∷ bs) more h =
+    let first = no-feed-first b bs h in
+    let r = long-piece bs more first.1 in
+    (r.0, r.1, rw first.0 (ap (onto_first b) r.2))
+
+pub but_empty_last-more : (l text : List ℕ) → but_empty_last (l ∷ pieces text) ≡ l ∷ but_empty_last (pieces text)
+but_empty_last-more l text = let p = pieces-some text in rw p.2 refl
+
+pub but_empty_last-append : (ls : List (List ℕ)) (text : List ℕ) → but_empty_last (ls ++ pieces text) ≡ ls ++ but_empty_last (pieces text)
+but_empty_last-append [] text = refl
+but_empty_last-append (l ∷ []) text = but_empty_last-more l text
+but_empty_last-append (l ∷ k ∷ ls) text = ap (λ (t : List (List ℕ)). l ∷ t) (but_empty_last-append (k ∷ ls) text)
+
+pub lines_of-line : (line more : List ℕ) → IsOneLine line → lines_of (line ++ 10 ∷ more) ≡ line ∷ lines_of more
+unfolding lines_of
+lines_of-line line more h = ap but_empty_last (pieces-line line more h) ∙ but_empty_last-more line more
+
+full-first : (l : List ℕ) (ls : List (List ℕ)) → 0 < length l → (ks : List (List ℕ)) × (but_empty_last (l ∷ ls) ≡ l ∷ ks)
+full-first [] ls lt = absurd (omega arith)
+full-first (b ∷ bs) [] lt = ([], rw (eqb-suc-zero (length bs)) refl)
+full-first (b ∷ bs) (k ∷ ls) lt = (but_empty_last (k ∷ ls), refl)
+
+full-last : (l : List ℕ) → 0 < length l → but_empty_last (l ∷ []) ≡ l ∷ []
+full-last [] lt = absurd (omega arith)
+full-last (b ∷ bs) lt = rw (eqb-suc-zero (length bs)) refl
+
+pub lines_of-last : (text : List ℕ) → IsOneLine text → 0 < length text → lines_of text ≡ text ∷ []
+unfolding lines_of
+lines_of-last text h some = ap but_empty_last (one-piece text h) ∙ full-last text some
+
+pub line_of-long : (text : List ℕ) → line_limit < length text → line_of text ≡ Bad
+unfolding line_of
+line_of-long text lt = rw (lt-ltb line_limit (length text) lt) refl
+
+-- a first line that is too long is bad, whatever comes behind it
+pub lines_of-long : (text more : List ℕ) → IsOneLine text → line_limit < length text
+    → (l : List ℕ) × (ls : List (List ℕ)) × (line_of l ≡ Bad) × (lines_of (text ++ more) ≡ l ∷ ls)
+unfolding lines_of
+lines_of-long text more h long =
+    let p = long-piece text more h in
+    let longer : line_limit < length (text ++ p.0) = omega (arith, length-append text p.0) in
+    let f = full-first (text ++ p.0) p.1 (omega arith) in
+    (text ++ p.0, f.0, line_of-long (text ++ p.0) longer, ap but_empty_last p.2 ∙ f.1)
+
+-- the line that goes on from partial and ends in the rest, whatever comes behind
+module _ (partial rest end after : List ℕ) (cut : rest ≡ end ++ 10 ∷ after) where
+  pub joined-cut : partial ++ rest ≡ (partial ++ end) ++ 10 ∷ after
+  joined-cut = ap (λ (t : List ℕ). partial ++ t) cut ∙ sym (append_assoc partial end (10 ∷ after))
+
+  pub lines_of-next : (more : List ℕ) → IsOneLine partial → IsOneLine end → lines_of ((partial ++ rest) ++ more) ≡ (partial ++ end) ∷ lines_of (after ++ more)
+  lines_of-next more p e =
+      ap (λ (t : List ℕ). lines_of (t ++ more)) joined-cut ∙ ap lines_of (append_assoc (partial ++ end) (10 ∷ after) more)
+      ∙ lines_of-line (partial ++ end) (after ++ more) (IsOneLine-append partial end p e)

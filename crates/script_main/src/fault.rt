@@ -1,0 +1,15 @@
+use thiserror::Error;
+
+/// Why a script was not run to its end.
+#[derive(Debug, Drop, Error, PartialEq, Eq)]
+pub enum RunFault {
+    /// The line of this number, counted from 1 over all lines, is not in the grammar.
+    #[error("bad line {0}")]
+    BadLine(u64),
+    #[error("out of memory")]
+    OutOfMemory,
+    #[error("a read failed")]
+    Read,
+    #[error("a write failed")]
+    Write,
+}
