@@ -13,9 +13,10 @@ use Rattle.cvl_calls.specs.declared.word.Word.{Word}
 use Rattle.cvl_calls.specs.declared.word.Word.TheVariants as words
 use Rattle.cvl_calls.specs.declared.word.Z2.{Z2}
 use Rattle.cvl_calls.specs.declared.word.ScanZ.{ScanZ}
-use Rattle.cvl_calls.specs.Operations.{map_z, scan_z, scan_from, combine_z, unit_z}
+use Rattle.cvl_calls.specs.Operations.{map_z, scan_z, combine_z, unit_z}
 use Rattle.cvl_calls.specs.Tasks.{Argument, Vector, Numbers}
 use Rattle.cvl_calls.specs.Outcomes.{Operand, Held, NumbersGiven, Effect, ◌>>=◌, check, operands_of, IsShortEffect}
+use Rattle.cvl_calls.proofs.ScanLemmas.{length-scan_from}
 use Rattle.cvl_calls.specs.Work.{operand, any_value, ints, ints_in, set_ints, get, map_ints, scan_ints, work}
 
 -- an operand that is a value has no more items than a value may have
@@ -68,10 +69,6 @@ length-map_z : (op : Z2) (xs ys : List ℤ) → length (map_z op xs ys) ≤ leng
 length-map_z op [] ys = omega arith
 length-map_z op (x ∷ xs) [] = omega arith
 length-map_z op (x ∷ xs) (y ∷ ys) = let rest = length-map_z op xs ys in omega arith
-
-length-scan_from : (f : ℤ → ℤ → ℤ) (x : ℤ) (ys : List ℤ) → length (scan_from f x ys) ≡ length ys
-length-scan_from f x [] = refl
-length-scan_from f x (y ∷ ys) = ap suc (length-scan_from f (f x y) ys)
 
 map_ints-short : (op : Z2) (a b : Operand) → IsShort a → MakesShort (map_ints op a b)
 unfolding map_ints

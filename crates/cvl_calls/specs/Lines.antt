@@ -1,5 +1,5 @@
--- The grammar of a call: its words, and the task that they ask for.
-use Rattle.std.specs.Prelude.{◌≡◌, ℕ, Bool, true, false, List, [], ◌∷◌, Option, Some, None, Result, Ok, Err, option_and_then, if◌then◌else◌, codes}
+-- The grammar of a call: its words, and the task that they ask for. A word stands by its place alone: `z = z 1` sets z.
+use Rattle.std.specs.Prelude.{◌≡◌, ℕ, Bool, true, false, List, [], ◌∷◌, Option, Some, None, IsSome, Result, Ok, Err, option_and_then, if◌then◌else◌, codes}
 use Rattle.vector_memory.specs.declared.name.Name.{Name}
 use Rattle.vector_memory.specs.Names.{name_of}
 use Rattle.cvl_calls.specs.declared.fault.ReadFault.{ReadFault}
@@ -87,8 +87,8 @@ task_in [] = None
 task_in (w ∷ []) = without_target w []
 task_in (w ∷ v ∷ ws) = if same_text v (codes "=") then behind_target w ws else without_target w (v ∷ ws)
 
--- What a function read, seen by view, is what the definition says, unless memory ran out.
+-- What a function read, seen by view, is what the definition says; memory runs out only where there is something to read.
 abbrev pub Reads : {X Y : Type 0} → (X → Y) → Result X ReadFault → Option Y → Type 0
 Reads view (Ok x) said = said ≡ Some (view x)
 Reads view (Err BadCall) said = said ≡ None
-Reads view (Err OutOfMemory) said = Unit {0}
+Reads view (Err OutOfMemory) said = IsSome said

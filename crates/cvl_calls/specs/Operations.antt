@@ -1,6 +1,6 @@
--- The operations on integers.
-use Rattle.std.specs.Prelude.{ℤ, pos, List, [], ◌∷◌, map, fold}
-use Rattle.std.specs.List.{zip}
+-- The operations on integers, and what they make of whole lists. `ScansPrefixes` says in plain words what a scan is.
+use Rattle.std.specs.Prelude.{◌≡◌, ℕ, ◌<◌, ℤ, pos, List, [], ◌∷◌, length, map, fold, take, Some}
+use Rattle.std.specs.List.{zip, slice_get}
 use Rattle.std.specs.Int.{w64, int_wrapping_add}
 use Rattle.cvl_calls.specs.declared.word.Z2.{Z2}
 use Rattle.cvl_calls.specs.declared.word.Z2.TheVariants as binary
@@ -15,6 +15,7 @@ apply_z binary.Add x y = int_wrapping_add w64 x y
 abbrev pub map_z : Z2 → List ℤ → List ℤ → List ℤ
 map_z op xs ys = map (λ p. apply_z op p.0 p.1) (zip xs ys)
 
+-- what the operation of a scan makes of two integers
 abbrev pub combine_z : ScanZ → ℤ → ℤ → ℤ
 combine_z scans.Add x y = int_wrapping_add w64 x y
 
@@ -22,6 +23,7 @@ combine_z scans.Add x y = int_wrapping_add w64 x y
 abbrev pub unit_z : ScanZ → ℤ
 unit_z scans.Add = pos 0
 
+-- the fold from the unit, from left to right
 abbrev pub reduce_z : ScanZ → List ℤ → ℤ
 reduce_z op xs = fold (combine_z op) (unit_z op) xs
 
@@ -33,3 +35,11 @@ scan_from f x (y ∷ ys) = x ∷ scan_from f (f x y) ys
 -- at each item, what the operation makes of the items before it
 abbrev pub scan_z : ScanZ → List ℤ → List ℤ
 scan_z op xs = scan_from (combine_z op) (unit_z op) xs
+
+-- Item i of a scan is the reduce of the first i items.
+abbrev pub ScansPrefixes : Type 0
+ScansPrefixes = (op : ScanZ) (xs : List ℤ) (i : ℕ) → i < length xs → slice_get (scan_z op xs) i ≡ Some (reduce_z op (take i xs))
+
+-- A scan has as many items as what is scanned.
+abbrev pub ScansEach : Type 0
+ScansEach = (op : ScanZ) (xs : List ℤ) → length (scan_z op xs) ≡ length xs

@@ -7,8 +7,8 @@ use Rattle.cvl_calls.specs.declared.fault.Stop.{Stop}
 use Rattle.cvl_calls.specs.declared.fault.Stop.TheVariants as stops
 use Rattle.cvl_calls.specs.declared.reply.Reply.{Reply}
 use Rattle.cvl_calls.specs.declared.reply.Reply.TheVariants as replies
-use Rattle.cvl_calls.specs.declared.work.Product.{Product}
-use Rattle.cvl_calls.specs.declared.work.Product.TheVariants as products
+use Rattle.cvl_calls.specs.declared.shapes.Product.{Product}
+use Rattle.cvl_calls.specs.declared.shapes.Product.TheVariants as products
 use Rattle.cvl_calls.specs.Tasks.{Argument, Vector, Numbers}
 
 -- an argument, with what the memory holds in place of a name

@@ -1,5 +1,5 @@
 -- What a call asks for, apart from where it lies: a word, a target and arguments.
-use Rattle.std.specs.Prelude.{ℤ, List, [], ◌∷◌, Option, Some, None, filter_map}
+use Rattle.std.specs.Prelude.{ℤ, ◌-◌, List, [], ◌∷◌, ◌++◌, length, map, replicate, Option, Some, None, filter_map}
 use Rattle.vector_memory.specs.declared.name.Name.{Name}
 use Rattle.cvl_calls.specs.declared.word.Word.{Word}
 use Rattle.cvl_calls.specs.declared.word.Word.TheVariants as words
@@ -31,3 +31,7 @@ name_in (Numbers xs) = None
 -- the names that are read, from left to right
 abbrev pub reads : Task → List Name
 reads t = filter_map name_in t.arguments
+
+-- a list of at most four, filled up with None
+abbrev pub four_of : {A : Type 0} → List A → List (Option A)
+four_of xs = map Some xs ++ replicate (4 - length xs) None

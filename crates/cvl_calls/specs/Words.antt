@@ -1,4 +1,4 @@
--- A line as words, and how each call word is written.
+-- A line as words, and how each call word is written: what stands before the `_` is the operation, what stands after it the shape.
 use Rattle.std.specs.Prelude.{ℕ, suc, Bool, true, false, ◌==◌, nat_eq, List, [], ◌∷◌, ◌++◌, filter, if◌then◌else◌, codes, Option, None, Some, find}
 use Rattle.std.specs.Borrow.{Bor}
 use Rattle.std.specs.Cmp.Lexicographic.{pointwise}

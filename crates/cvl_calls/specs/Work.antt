@@ -1,6 +1,8 @@
--- The work of each call word: its result, or the first fault, from the operands alone.
+-- The work of each shape of call: its result, or the first fault, from the operands alone.
+-- A block has one line a check, in the order in which they are made: a name that stands for nothing, a value of another
+-- type, and then the shape's own. Room and the number of names are judged where the result is stored.
 use Rattle.std.specs.Prelude.{ℕ, ℤ, List, length, Some, None, Result, Ok, Err, nat_le, ◌==◌, unwrap_or, slice_get}
-use Rattle.vector_memory.specs.Contents.{Content, Ints, size_of}
+use Rattle.vector_memory.specs.Contents.{Content, Ints}
 use Rattle.vector_memory.specs.States.{item_limit}
 use Rattle.cvl_calls.specs.declared.fault.Fault.{Fault}
 use Rattle.cvl_calls.specs.declared.fault.Fault.TheVariants.{NoVector, WrongType, WrongLength, TooLong}
@@ -15,7 +17,7 @@ use Rattle.cvl_calls.specs.Outcomes.{Operand, Held, NumbersGiven, Effect, Stores
 abbrev pub operand : List Operand → ℕ → Operand
 operand operands i = unwrap_or (slice_get operands i) (Held None)
 
--- a value of any type
+-- a name that stands for a value of any type
 abbrev pub any_value : Operand → Result Content Fault
 any_value (Held (Some v)) = Ok v
 any_value (Held None) = Err NoVector
@@ -24,21 +26,24 @@ any_value (NumbersGiven xs) = Err WrongType
 abbrev pub ints_in : Content → Result (List ℤ) Fault
 ints_in (Ints xs) = Ok xs
 
--- a vector of integers
+-- a name that stands for a vector of integers
 abbrev pub ints : Operand → Result (List ℤ) Fault
 ints o = any_value o >>= ints_in
 
+-- d = z x ..
 abbrev pub set_ints : Operand → Result Effect Fault
 set_ints (NumbersGiven xs) = do
   fits ← check (nat_le (length xs) item_limit) TooLong
   Ok (Stores (Ints xs))
 set_ints (Held v) = Err WrongType
 
+-- get a
 unfoldable pub get : Operand → Result Effect Fault
 get a = do
   v ← any_value a
   Ok (Answers (VectorOf v))
 
+-- d = OP_wuz a b
 unfoldable pub map_ints : Z2 → Operand → Operand → Result Effect Fault
 map_ints op a b = do
   xs ← ints a
@@ -46,6 +51,7 @@ map_ints op a b = do
   same ← check (length xs == length ys) WrongLength
   Ok (Stores (Ints (map_z op xs ys)))
 
+-- d = OP_suz a
 unfoldable pub scan_ints : ScanZ → Operand → Result Effect Fault
 scan_ints op a = do
   xs ← ints a

@@ -8,7 +8,7 @@ ghost use Rattle.cvl_calls.specs.Steps.{Stepped, applied, stepped, stored};
 use crate::call::{Call, target};
 use crate::fault::{Fault, Stop};
 use crate::reply::Reply;
-use crate::work::{Product, work};
+use crate::shapes::{Product, work};
 use std::alloc::Global;
 use vector_memory::{Memory, Name, OutOfMemory, StoreFault, Value};
 

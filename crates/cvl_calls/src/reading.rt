@@ -1,6 +1,7 @@
-//! Calls from the text of their lines.
+//! Calls from the words of their lines.
 
-ghost use Rattle.std.specs.Prelude.{◌≡◌, [], ◌∷◌, Option, Some, None, IfOk};
+ghost use Rattle.std.specs.Prelude.{◌≡◌, [], ◌∷◌, Option, Some, None, is_some, length};
+ghost use Rattle.std.specs.Option.{option_map};
 ghost use Rattle.vector_memory.specs.Names.{name_of};
 ghost use Rattle.cvl_calls.specs.Words.{words_of};
 ghost use Rattle.cvl_calls.specs.Tasks.{Vector, Numbers, task_of};
@@ -9,55 +10,79 @@ ghost use Rattle.cvl_calls.specs.Lines.{Reads, NameKind, all_of, arguments_in, t
 
 use crate::call::Call;
 use crate::fault::ReadFault;
-use crate::text::{next_word, number_of};
+use crate::number::number_of;
+use crate::text::next_word;
 use crate::word::{Word, word_of};
 use std::alloc::Global;
 use vector_memory::Name;
 
-/// The name that a text is.
-fn name(text: &[u8]) -> Result<Name, ReadFault>
-    ensures { Reads (λ n. n) result (name_of text.now) }
-{
-    Name::read(text).ok_or(ReadFault::BadCall)
-}
-
 /// One name, and nothing after it.
-fn one_name(text: &[u8]) -> Result<Name, ReadFault>
-    ensures { Reads (λ a. Vector a ∷ []) result (arguments_in (NameKind ∷ []) (words_of text.now)) }
+fn one_name(text: &[u8]) -> Option<Name>
+    ensures { option_map (λ a. Vector a ∷ []) result ≡ arguments_in (NameKind ∷ []) (words_of text.now) }
 {
-    let Some((first, rest)) = next_word(text) else {
-        return Err(ReadFault::BadCall);
-    };
-    let a = name(first)?;
+    let (first, rest) = next_word(text)?;
+    let a = Name::read(first)?;
     match next_word(rest) {
-        None => Ok(a),
-        Some(_) => Err(ReadFault::BadCall),
+        None => Some(a),
+        Some(_) => None,
     }
 }
 
 /// Two names, and nothing after them.
-fn two_names(text: &[u8]) -> Result<(Name, Name), ReadFault>
-    ensures { Reads (λ p. Vector p.0 ∷ Vector p.1 ∷ []) result
-        (arguments_in (NameKind ∷ NameKind ∷ []) (words_of text.now)) }
+fn two_names(text: &[u8]) -> Option<(Name, Name)>
+    ensures { option_map (λ p. Vector p.0 ∷ Vector p.1 ∷ []) result
+        ≡ arguments_in (NameKind ∷ NameKind ∷ []) (words_of text.now) }
 {
-    let Some((first, rest)) = next_word(text) else {
-        return Err(ReadFault::BadCall);
-    };
-    let a = name(first)?;
-    Ok((a, one_name(rest)?))
+    let (first, rest) = next_word(text)?;
+    let a = Name::read(first)?;
+    let b = one_name(rest)?;
+    Some((a, b))
+}
+
+/// The number of words.
+fn count_words(text: &[u8]) -> usize
+    ensures { result ≡ length (words_of text.now) }
+{
+    let mut count = 0;
+    let mut rest = text;
+    while let Some((_, after)) = next_word(rest) {
+        count += 1;
+        rest = after;
+    }
+    count
+}
+
+/// Whether every word is a number.
+fn are_numbers(text: &[u8]) -> bool
+    ensures { result ≡ is_some (all_of number_of (words_of text.now)) }
+{
+    let mut rest = text;
+    while let Some((word, after)) = next_word(rest) {
+        if number_of(word).is_none() {
+            return false;
+        }
+        rest = after;
+    }
+    true
 }
 
 /// All words as numbers.
 fn numbers(alloc: Global, text: &[u8]) -> Result<Vec<i64>, ReadFault>
     ensures { Reads (λ v. v.items) result (all_of number_of (words_of text.now)) }
 {
-    let mut numbers = Vec::new(alloc);
+    let Ok(mut numbers) = Vec::with_capacity(alloc, count_words(text)) else {
+        return Err(if are_numbers(text) {
+            ReadFault::OutOfMemory
+        } else {
+            ReadFault::BadCall
+        });
+    };
     let mut rest = text;
     while let Some((word, after)) = next_word(rest) {
         let Some(number) = number_of(word) else {
             return Err(ReadFault::BadCall);
         };
-        numbers.push(number)?;
+        numbers.push_reserved(number);
         rest = after;
     }
     Ok(numbers)
@@ -74,11 +99,11 @@ fn targeted(alloc: Global, to: Name, word: Word, text: &[u8]) -> Result<Call, Re
             Ok(Call::SetInts { to, items })
         }
         Word::MapZ2(op) => {
-            let (a, b) = two_names(text)?;
+            let (a, b) = two_names(text).ok_or(ReadFault::BadCall)?;
             Ok(Call::MapZ2 { to, op, a, b })
         }
         Word::ScanZ(op) => {
-            let a = one_name(text)?;
+            let a = one_name(text).ok_or(ReadFault::BadCall)?;
             Ok(Call::ScanOfZ { to, op, a })
         }
         Word::Get => Err(ReadFault::BadCall),
@@ -87,20 +112,21 @@ fn targeted(alloc: Global, to: Name, word: Word, text: &[u8]) -> Result<Call, Re
 
 /// The call of a word that stands first.
 #[tactic(auto, unfolding(crate::specs::Lines::untargeted))]
-fn untargeted(word: Word, text: &[u8]) -> Result<Call, ReadFault>
-    ensures { Reads task_of result (untargeted word (words_of text.now)) }
+fn untargeted(word: Word, text: &[u8]) -> Option<Call>
+    ensures { option_map task_of result ≡ untargeted word (words_of text.now) }
 {
     match word {
         Word::Get => {
             let a = one_name(text)?;
-            Ok(Call::Get { a })
+            Some(Call::Get { a })
         }
-        Word::SetInts => Err(ReadFault::BadCall),
-        Word::MapZ2(_) => Err(ReadFault::BadCall),
-        Word::ScanZ(_) => Err(ReadFault::BadCall),
+        Word::SetInts => None,
+        Word::MapZ2(_) => None,
+        Word::ScanZ(_) => None,
     }
 }
 
+/// The call of the words behind a target and `=`.
 #[tactic(auto, unfolding(crate::specs::Lines::behind_target))]
 fn behind_target(alloc: Global, to: &[u8], text: &[u8]) -> Result<Call, ReadFault>
     ensures { Reads task_of result (behind_target to.now (words_of text.now)) }
@@ -108,39 +134,42 @@ fn behind_target(alloc: Global, to: &[u8], text: &[u8]) -> Result<Call, ReadFaul
     let Some((word, rest)) = next_word(text) else {
         return Err(ReadFault::BadCall);
     };
-    let to = name(to)?;
+    let Some(to) = Name::read(to) else {
+        return Err(ReadFault::BadCall);
+    };
     let Some(word) = word_of(word) else {
         return Err(ReadFault::BadCall);
     };
     targeted(alloc, to, word, rest)
 }
 
+/// The call of words that begin with the call word.
 #[tactic(auto, unfolding(crate::specs::Lines::without_target))]
-fn without_target(word: &[u8], rest: &[u8]) -> Result<Call, ReadFault>
-    ensures { Reads task_of result (without_target word.now (words_of rest.now)) }
+fn without_target(word: &[u8], rest: &[u8]) -> Option<Call>
+    ensures { option_map task_of result ≡ without_target word.now (words_of rest.now) }
 {
-    let Some(word) = word_of(word) else {
-        return Err(ReadFault::BadCall);
-    };
-    untargeted(word, rest)
+    untargeted(word_of(word)?, rest)
 }
 
-/// The call that a text asks for.
-#[tactic(auto, unfolding(crate::specs::Lines::task_in))]
-pub fn read_call(alloc: Global, text: &[u8]) -> Result<Call, ReadFault>
-    ensures { Reads task_of result (task_in (words_of text.now)) }
-{
-    let Some((first, rest)) = next_word(text) else {
-        return Err(ReadFault::BadCall);
-    };
-    match next_word(rest) {
-        Some((second, behind)) => {
-            if second == b"=".as_slice() {
-                behind_target(alloc, first, behind)
-            } else {
-                without_target(first, rest)
+impl Call {
+    /// The call that a text asks for: the part of a line behind the caller's word, with spaces as they come.
+    /// `BadCall` exactly where the text is no call; for want of memory only where it is one.
+    #[tactic(auto, unfolding(crate::specs::Lines::task_in))]
+    pub fn read(alloc: Global, text: &[u8]) -> Result<Call, ReadFault>
+        ensures { Reads task_of result (task_in (words_of text.now)) }
+    {
+        let Some((first, rest)) = next_word(text) else {
+            return Err(ReadFault::BadCall);
+        };
+        match next_word(rest) {
+            Some((second, behind)) => {
+                if second == b"=".as_slice() {
+                    behind_target(alloc, first, behind)
+                } else {
+                    without_target(first, rest).ok_or(ReadFault::BadCall)
+                }
             }
+            None => without_target(first, rest).ok_or(ReadFault::BadCall),
         }
-        None => without_target(first, rest),
     }
 }

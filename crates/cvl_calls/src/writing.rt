@@ -66,14 +66,30 @@ fn fault_text(fault: Fault) -> &'static [u8]
     }
 }
 
-/// Writes the reply behind what is there. On an error a part of it may stand there.
-pub fn append_reply(out: &mut Vec<u8>, reply: &Reply) -> Result<(), AllocError>
-    ensures ok { OnOk result (out.new.items ≡ out.old.items ++ answer_text (answer_of reply.now)) }
-    ensures err { OnErr result (Begins out.old.items out.new.items) }
+/// Appends the text of a value: its letter, then for each item a space and the item. On an error nothing is written.
+pub fn write_value(value: &Value, out: &mut Vec<u8>) -> Result<(), OutOfMemory>
+    ensures ok { OnOk result (out.new.items ≡ out.old.items ++ value_text (content_of value.now)) }
+    ensures err { OnErr result (out.new.items ≡ out.old.items) }
 {
-    match reply {
-        Reply::Done => out.extend_from_slice(b"ok"),
-        Reply::Vector(value) => append_value(out, value),
-        Reply::Fault(fault) => out.extend_from_slice(fault_text(*fault)),
+    let start = out.len();
+    if append_value(out, value).is_err() {
+        out.truncate(start);
+        return Err(OutOfMemory);
+    }
+    Ok(())
+}
+
+impl Reply {
+    /// Appends the text of the reply: `ok`, a value's text, or `fault n` with n from 1 to 10. On an error nothing is written.
+    pub fn write(&self, out: &mut Vec<u8>) -> Result<(), OutOfMemory>
+        ensures ok { OnOk result (out.new.items ≡ out.old.items ++ answer_text (answer_of self.now)) }
+        ensures err { OnErr result (out.new.items ≡ out.old.items) }
+    {
+        match self {
+            Reply::Done => out.extend_from_slice(b"ok")?,
+            Reply::Vector(value) => write_value(value, out)?,
+            Reply::Fault(fault) => out.extend_from_slice(fault_text(*fault))?,
+        }
+        Ok(())
     }
 }

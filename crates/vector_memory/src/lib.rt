@@ -4,6 +4,8 @@
 
 mod memory;
 mod name;
+#[cfg(test)]
+mod tests;
 mod value;
 
 pub use memory::{ITEM_LIMIT, Memory, NAME_LIMIT, ROOM_LIMIT, StoreFault};

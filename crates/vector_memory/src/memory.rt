@@ -1,7 +1,10 @@
-ghost use Rattle.std.specs.Prelude.{◌≡◌, ℕ, ◌≤◌, ◌<◌, [], Ok, Err, length, IfOk, OnOk, OnErr, is_some};
+ghost use Rattle.std.specs.Prelude.{◌≡◌, ◌==◌, ℕ, ◌≤◌, None, Some, length, position, IfOk, IfErr, OnOk, OnErr};
 ghost use Rattle.std.specs.Map.Iter.{ShowsInOrder, deref_pair};
 ghost use Rattle.std.specs.Option.{option_map, option_copied};
+ghost use Rattle.std.specs.Map.{keys_of};
+ghost use Rattle.indexmap.specs.IndexMap.{get, index_of, insert_entry, IsUnique};
 ghost use Rattle.vector_memory.specs.Contents.{content_of, size_of};
+ghost use Rattle.vector_memory.specs.Names.{same_name};
 
 use crate::{Name, Value};
 use indexmap::IndexMap;
@@ -20,18 +23,32 @@ pub const ROOM_LIMIT: u64 = 67_108_864;
 /// The greatest number of names in a memory.
 pub const NAME_LIMIT: usize = 4096;
 
+/// The number of names that a memory has a table for from the start.
+const FIRST_NAMES: usize = 16;
+
 /// Why a value was not stored.
 #[derive(Debug, Drop, Error, PartialEq, Eq)]
 pub enum StoreFault {
+    /// The items of all values would pass the room.
     #[error("no room for the value")]
     NoRoom,
+    /// The name is new, and there are as many names as there may be.
     #[error("too many names")]
     TooManyNames,
+    /// The name is new, and an allocation for it was refused.
     #[error("out of memory")]
     OutOfMemory,
 }
 
-/// Values by name, in the order in which the names came, within a room.
+/// Where a value goes, and the number of items of all values once it is there.
+#[derive(Clone, Copy)]
+struct Place {
+    /// The index of its name, if the name is there.
+    index: Option<usize>,
+    cells: usize,
+}
+
+/// Values by name, in the order in which the names came, whose items are together no more than the room.
 #[derive(Drop)]
 pub struct Memory {
     values: IndexMap<Name, Value>,
@@ -53,51 +70,28 @@ impl Model for Memory {
 }
 
 impl Memory {
-    ghost use Rattle.vector_memory.specs.States.{State, IsLawful, value_at, cells_of, old_size, refusal, put, without, contents, IsJudged, IsLawfulRoom, empty, item_limit};
+    ghost use Rattle.vector_memory.specs.States.{State, IsLawful, IsLawfulRoom, IsJudged, empty, value_at, cells_of, cells_after, refusal, put, contents, item_limit};
 
-    /// A memory without values.
+    /// A memory without values, for values of up to `room` items together: from 1 to `ROOM_LIMIT`.
     pub fn new(alloc: Global, room: u64) -> Result<Memory, OutOfMemory>
         requires { IsLawfulRoom room }
         ensures { IfOk result (λ memory. memory ≡ empty room) }
     {
         Ok(Memory {
-            values: IndexMap::with_capacity(alloc, 16)?,
+            values: IndexMap::with_capacity(alloc, FIRST_NAMES)?,
             cells: 0,
             room,
         })
     }
 
-    /// The value of a name.
+    /// The value of a name, if it has one.
     pub fn get(&self, name: &Name) -> Option<&Value>
         ensures { option_map content_of (option_copied result) ≡ value_at self.now name.now }
     {
         self.values.get(name)
     }
 
-    /// The size of what a name stands for, or 0.
-    fn old_size(&self, name: &Name) -> usize
-        ensures { result ≡ old_size self.now name.now }
-    {
-        self.get(name).map_or(0, |value| value.size())
-    }
-
-    /// Why a value cannot be stored, if it cannot.
-    #[tactic(auto, using(crate::proofs::StateLemmas::old_size_le_cells))]
-    fn refusal(&self, name: &Name, value: &Value) -> Option<StoreFault>
-        requires { size_of (content_of value.now) ≤ item_limit }
-        ensures { result ≡ refusal self.now name.now (content_of value.now) }
-    {
-        let cells = self.cells() - self.old_size(name) + value.size();
-        if cells as u64 > self.room() {
-            return Some(StoreFault::NoRoom);
-        }
-        if self.get(name).is_none() && self.len() >= NAME_LIMIT {
-            return Some(StoreFault::TooManyNames);
-        }
-        None
-    }
-
-    /// The number of items of all values.
+    /// The number of items of all values. Every memory keeps its limits.
     pub fn cells(&self) -> usize
         ensures cells { result ≡ cells_of self.now.entries }
         ensures lawful { IsLawful self.now }
@@ -105,19 +99,18 @@ impl Memory {
         self.cells
     }
 
-    /// The values with their names, in the order in which the names came.
-    pub fn iter(&self) -> Iter<'_, Name, Value>
-        ensures rest { contents result ≡ self.now.entries }
-        ensures runs { ShowsInOrder (deref_pair {K = Name} {X = Value}) }
-    {
-        self.values.iter()
-    }
-
     /// The number of names.
     pub fn len(&self) -> usize
         ensures { result ≡ length self.now.entries }
     {
         self.values.len()
+    }
+
+    /// Whether no name has a value.
+    pub fn is_empty(&self) -> bool
+        ensures { result ≡ (length self.now.entries == 0) }
+    {
+        self.values.is_empty()
     }
 
     /// The greatest number of items of all values. Every memory keeps its limits.
@@ -128,25 +121,89 @@ impl Memory {
         self.room
     }
 
+    /// The values with their names, in the order in which the names came.
+    pub fn iter(&self) -> Iter<'_, Name, Value>
+        ensures rest { contents result ≡ self.now.entries }
+        ensures runs { ShowsInOrder (deref_pair {K = Name} {X = Value}) }
+    {
+        self.values.iter()
+    }
+
+    /// The index of a name and its value, if it has one.
+    fn find(&self, name: &Name) -> Option<(usize, &Value)>
+        ensures index { option_map (λ found. found.0) result ≡ position (same_name name.now) (keys_of self.now.entries) }
+        ensures value { option_map (λ found. content_of found.1.now) result ≡ value_at self.now name.now }
+    {
+        let (index, _, value) = self.values.get_full(name)?;
+        Some((index, value))
+    }
+
+    /// Where a value goes under a name and how many items there are then, or why it cannot go there.
     #[tactic(auto, using(crate::proofs::StateLemmas::old_size_le_cells))]
+    fn judge(&self, name: &Name, value: &Value) -> Result<Place, StoreFault>
+        requires { size_of (content_of value.now) ≤ item_limit }
+        ensures accepted { OnOk result (refusal self.now name.now (content_of value.now) ≡ None) }
+        ensures index { IfOk result (λ place. place.index ≡ position (same_name name.now) (keys_of self.now.entries)) }
+        ensures cells { IfOk result (λ place. place.cells ≡ cells_after self.now name.now (content_of value.now)) }
+        ensures refused { IfErr result (λ fault. refusal self.now name.now (content_of value.now) ≡ Some fault) }
+    {
+        let old = self.find(name);
+        let cells = self.cells() - old.map_or(0, |(_, value)| value.size()) + value.size();
+        if cells as u64 > self.room() {
+            return Err(StoreFault::NoRoom);
+        }
+        if old.is_none() && self.len() >= NAME_LIMIT {
+            return Err(StoreFault::TooManyNames);
+        }
+        Ok(Place {
+            index: old.map(|(index, _)| index),
+            cells,
+        })
+    }
+
     /// Sets the value of a name. A name that is there keeps its place, and a new one goes last.
-    /// On a refusal the value is dropped.
+    /// On a refusal nothing changes and the value is dropped: `NoRoom` where the room is passed, else `TooManyNames` where
+    /// the name is new and there are `NAME_LIMIT` names. Memory is refused to a new name alone.
     pub fn store(&mut self, name: Name, value: Value) -> Result<(), StoreFault>
         requires { size_of (content_of value) ≤ item_limit }
         ensures judged { IsJudged result (refusal self.old name (content_of value)) }
+        ensures new_only { result ≡ Err StoreFault.OutOfMemory → value_at self.old name ≡ None }
         ensures ok { OnOk result (self.new ≡ put self.old name (content_of value)) }
         ensures err { OnErr result (self.new ≡ self.old) }
     {
-        if let Some(fault) = self.refusal(&name, &value) {
-            return Err(fault);
-        }
-        let cells = self.cells - self.old_size(&name) + value.size();
-        match self.values.insert(name, value) {
-            Ok(_) => {
-                self.cells = cells;
+        let place = match self.judge(&name, &value) {
+            Ok(place) => place,
+            Err(fault) => return Err(fault),
+        };
+        match put_at(&mut self.values, place.index, name, value) {
+            Ok(()) => {
+                self.cells = place.cells;
                 Ok(())
             }
-            Err(_) => Err(StoreFault::OutOfMemory),
+            Err(OutOfMemory) => Err(StoreFault::OutOfMemory),
         }
     }
+}
+
+/// Puts a value over the one at the index of its name, or last where there is none.
+fn put_at(
+    values: &mut IndexMap<Name, Value>,
+    index: Option<usize>,
+    name: Name,
+    value: Value,
+) -> Result<(), OutOfMemory>
+    requires index { index ≡ index_of same_name values.old name }
+    requires unique { IsUnique same_name values.old }
+    ensures ok { OnOk result (values.new.entries ≡ insert_entry same_name values.old.entries name value) }
+    ensures err { OnErr result (values.new.entries ≡ values.old.entries) }
+    ensures absent { OnErr result (get same_name values.old name ≡ None) }
+    ensures unique { IsUnique same_name values.new }
+{
+    match index {
+        Some(index) => values[index] = value,
+        None => {
+            values.insert(name, value)?;
+        }
+    }
+    Ok(())
 }

@@ -4,8 +4,9 @@ ghost use Rattle.vector_memory.specs.Contents.{content_of, size_of};
 use segment_desc::OutOfMemory;
 
 /// What a name stands for.
-#[derive(Debug, Drop)]
+#[derive(Debug, Drop, PartialEq, Eq)]
 pub enum Value {
+    /// Integers of 64 bits, with a sign.
     Ints(Vec<i64>),
 }
 
@@ -19,7 +20,7 @@ impl Value {
         }
     }
 
-    /// A copy of the value.
+    /// A copy of the value, in memory of its own.
     pub fn try_copy(&self) -> Result<Value, OutOfMemory>
         ensures { IfOk result (λ copy. content_of copy ≡ content_of self.now) }
     {
