@@ -52,7 +52,7 @@ fn zeros(rt: &HostRuntime, count: usize) -> Result<Vec<i64>, Fail> {
 
 #[test]
 fn sets_and_gets(rt: HostRuntime) -> Result<(), Fail> {
-    let mut memory = Memory::new(rt.alloc(), ROOM);
+    let mut memory = Memory::new(rt.alloc(), ROOM)?;
     assert!(rt; replies(&rt, &mut memory, b"a = z 1 -2 30", b"ok")?);
     assert!(rt; replies(&rt, &mut memory, b"get a", b"z 1 -2 30")?);
     assert!(rt; replies(&rt, &mut memory, b"a = z", b"ok")?);
@@ -63,7 +63,7 @@ fn sets_and_gets(rt: HostRuntime) -> Result<(), Fail> {
 
 #[test]
 fn adds_and_wraps(rt: HostRuntime) -> Result<(), Fail> {
-    let mut memory = Memory::new(rt.alloc(), ROOM);
+    let mut memory = Memory::new(rt.alloc(), ROOM)?;
     assert!(rt; replies(&rt, &mut memory, b"a = z 1 9223372036854775807 -5", b"ok")?);
     assert!(rt; replies(&rt, &mut memory, b"b = z 2 1 -6", b"ok")?);
     assert!(rt; replies(&rt, &mut memory, b"c = add_wuz a b", b"ok")?);
@@ -75,7 +75,7 @@ fn adds_and_wraps(rt: HostRuntime) -> Result<(), Fail> {
 
 #[test]
 fn scans_before_each_item(rt: HostRuntime) -> Result<(), Fail> {
-    let mut memory = Memory::new(rt.alloc(), ROOM);
+    let mut memory = Memory::new(rt.alloc(), ROOM)?;
     assert!(rt; replies(&rt, &mut memory, b"a = z 1 2 3 4", b"ok")?);
     assert!(rt; replies(&rt, &mut memory, b"a = add_suz a", b"ok")?);
     assert!(rt; replies(&rt, &mut memory, b"get a", b"z 0 1 3 6")?);
@@ -88,7 +88,7 @@ fn scans_before_each_item(rt: HostRuntime) -> Result<(), Fail> {
 /// A missing name comes before a difference in length, and a fault changes nothing.
 #[test]
 fn faults_in_order(rt: HostRuntime) -> Result<(), Fail> {
-    let mut memory = Memory::new(rt.alloc(), 4);
+    let mut memory = Memory::new(rt.alloc(), 4)?;
     assert!(rt; replies(&rt, &mut memory, b"a = z 1 2", b"ok")?);
     assert!(rt; replies(&rt, &mut memory, b"a = add_wuz a b", b"fault 1")?);
     assert!(rt; replies(&rt, &mut memory, b"b = z 1", b"ok")?);
@@ -104,7 +104,7 @@ fn faults_in_order(rt: HostRuntime) -> Result<(), Fail> {
 /// A set form has at most 1,048,576 items, which no line can pass: the call itself shows it.
 #[test]
 fn too_long_past_the_limit(rt: HostRuntime) -> Result<(), Fail> {
-    let mut memory = Memory::new(rt.alloc(), 10_000_000);
+    let mut memory = Memory::new(rt.alloc(), 10_000_000)?;
     let to = name(b"a")?;
     let most = Call::SetInts {
         to,
@@ -132,7 +132,7 @@ fn too_long_past_the_limit(rt: HostRuntime) -> Result<(), Fail> {
 
 #[test]
 fn too_many_names(rt: HostRuntime) -> Result<(), Fail> {
-    let mut memory = Memory::new(rt.alloc(), ROOM);
+    let mut memory = Memory::new(rt.alloc(), ROOM)?;
     for i in 0..4096u64 {
         let mut line = Vec::new(rt.alloc());
         line.push(b'n')?;
@@ -288,7 +288,7 @@ fn writes_replies(rt: HostRuntime) -> Result<(), Fail> {
 
 #[test]
 fn works_then_applies(rt: HostRuntime) -> Result<(), Fail> {
-    let mut memory = Memory::new(rt.alloc(), ROOM);
+    let mut memory = Memory::new(rt.alloc(), ROOM)?;
     let a = name(b"a")?;
     let set = Call::SetInts {
         to: a,
