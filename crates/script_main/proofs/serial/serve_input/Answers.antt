@@ -114,9 +114,10 @@ returns-in_err-serve_block-in-Ok-clause-counted g c =
     let failed = c.in_err-serve_block-in-Ok.field-0.0 in
     let given = err_from_is_err_and c.from_residual.result c.from_residual.ensures.1 in
     let Stops = λ (f : RunFault). IsStop f run.memory run.number text [] (g.W.Sink.written c.loop-run.writer) (g.W.Sink.written c.serve_block.new.writer) in
+    let is_failed : c.from_residual.result ≡ Err failed = given.1 ∙ ap (λ (f : RunFault). Err f) given.2 in
     let stop = handed-out c.from_residual.result Stops failed given.0 given.1 given.2 (c.in_err-serve_block-in-Ok.ensures.stop []) in
     subst (λ (n : ℕ). IsCounted c.from_residual.result reads reads' n writes') kept.writes
-    (counted-served c.from_residual.result reads reads' writes writes' Stops (λ never. never) stop (λ is. c.in_err-serve_block-in-Ok.ensures.failed (sym (ap (λ (f : RunFault). Err f) given.2) ∙ sym given.1 ∙ is)))
+    (counted-served c.from_residual.result reads reads' writes writes' Stops (λ never. never) stop (λ is. c.in_err-serve_block-in-Ok.ensures.failed (sym is_failed ∙ is)))
 
 pub returns-in-Err-clause-runs : goal.returns-in-Err-clause-runs
 returns-in-Err-clause-runs g c =

@@ -1,0 +1,128 @@
+//! The program over memory, and its arguments.
+
+use crate::streams::{Full, Pieces, Short};
+use script_main::{ReadSource, WriteSink, run_program};
+use std::test::Fail;
+
+/// What the program wrote, and its exit status.
+#[derive(Drop)]
+pub struct Ran {
+    pub text: Vec<u8>,
+    pub status: u8,
+}
+
+/// Runs the program with these arguments on a reader, with a writer that takes a number of bytes.
+pub fn run_on(
+    rt: &HostRuntime,
+    arguments: &[&str],
+    reader: Pieces<'_>,
+    mut writer: Short,
+) -> Result<Ran, Fail> {
+    let mut words = Vec::new(rt.alloc());
+    for argument in arguments {
+        words.push(argument.to_string(rt.alloc())?)?;
+    }
+    let mut source = ReadSource::new(reader);
+    let mut sink = WriteSink::new(&mut writer);
+    let status = run_program(rt.alloc(), &words, &mut source, &mut sink);
+    Ok(Ran {
+        text: writer.taken,
+        status,
+    })
+}
+
+/// A writer that takes this many bytes, some at a time, and then fails.
+pub fn writer(rt: &HostRuntime, step: usize, left: usize, full: Full) -> Short {
+    Short {
+        taken: Vec::new(rt.alloc()),
+        step,
+        left,
+        full,
+    }
+}
+
+/// Runs the program on a script, with nothing that fails.
+pub fn run(rt: &HostRuntime, arguments: &[&str], script: &[u8], step: usize) -> Result<Ran, Fail> {
+    let reader = Pieces {
+        bytes: script,
+        step,
+        fails: None,
+    };
+    run_on(rt, arguments, reader, writer(rt, 1000, usize::MAX, Full::Fails))
+}
+
+/// Whether the program answers a script with this text and this status, however the script is cut by reads.
+pub fn answers(
+    rt: &HostRuntime,
+    arguments: &[&str],
+    script: &[u8],
+    text: &[u8],
+    status: u8,
+) -> Result<bool, Fail> {
+    let mut good = true;
+    for step in [1, 2, 7, 100_000] {
+        let ran = run(rt, arguments, script, step)?;
+        good = good && ran.text.as_slice() == text && ran.status == status;
+    }
+    Ok(good)
+}
+
+const USAGE: &[u8] = b"usage: cvl serial|threads [room]\n";
+
+#[test]
+fn usage_for_other_arguments(rt: HostRuntime) -> Result<(), Fail> {
+    let script = b"0: a = z 1\n";
+    let wrong: [&[&str]; 14] = [
+        &[],
+        &["threads"],
+        &["threads", "4"],
+        &["Serial"],
+        &["serial "],
+        &[""],
+        &["serial", "0"],
+        &["serial", ""],
+        &["serial", "04"],
+        &["serial", "+4"],
+        &["serial", "-4"],
+        &["serial", "4 "],
+        &["serial", "67108865"],
+        &["serial", "4", "4"],
+    ];
+    for arguments in wrong {
+        assert!(rt; answers(&rt, arguments, script, USAGE, 2)?);
+    }
+    assert!(rt; answers(&rt, &["serial", "18446744073709551617"], script, USAGE, 2)?);
+    Ok(())
+}
+
+#[test]
+fn rooms_from_the_arguments(rt: HostRuntime) -> Result<(), Fail> {
+    let script = b"0: a = z 1\n0: b = z 1\n";
+    assert!(rt; answers(&rt, &["serial"], script, b"0 ok\n0 ok\n", 0)?);
+    assert!(rt; answers(&rt, &["serial", "1"], script, b"0 ok\n0 fault 9\n", 0)?);
+    assert!(rt; answers(&rt, &["serial", "2"], script, b"0 ok\n0 ok\n", 0)?);
+    assert!(rt; answers(&rt, &["serial", "67108864"], script, b"0 ok\n0 ok\n", 0)?);
+    Ok(())
+}
+
+/// The arguments are judged before any input is read, and the usage line may find no writer.
+#[test]
+fn usage_without_reader_or_writer(rt: HostRuntime) -> Result<(), Fail> {
+    let failing = Pieces {
+        bytes: b"",
+        step: 1,
+        fails: Some(0),
+    };
+    let ran = run_on(&rt, &[], failing, writer(&rt, 1000, 1000, Full::Fails))?;
+    assert!(rt; ran.text.as_slice() == USAGE && ran.status == 2);
+    for left in 0..USAGE.len() {
+        let reader = Pieces {
+            bytes: b"",
+            step: 1,
+            fails: None,
+        };
+        let ran = run_on(&rt, &[], reader, writer(&rt, 1, left, Full::Fails))?;
+        assert!(rt; ran.text.as_slice() == &USAGE[..left] && ran.status == 4);
+    }
+    Ok(())
+}

@@ -1,0 +1,51 @@
+//! The worked rows of the profile, byte for byte, with their statuses.
+
+use crate::program::answers;
+use std::test::Fail;
+
+#[test]
+fn empty_script(rt: HostRuntime) -> Result<(), Fail> {
+    assert!(rt; answers(&rt, &["serial"], b"", b"", 0)?);
+    Ok(())
+}
+
+#[test]
+fn adds_two_vectors(rt: HostRuntime) -> Result<(), Fail> {
+    let script = b"0: a = z 1 2 3\n0: b = z 10 20 30\n0: c = add_wuz a b\n0: get c\n";
+    assert!(rt; answers(&rt, &["serial"], script, b"0 ok\n0 ok\n0 ok\n0 z 11 22 33\n", 0)?);
+    Ok(())
+}
+
+#[test]
+fn different_lengths_change_nothing(rt: HostRuntime) -> Result<(), Fail> {
+    let script = b"0: a = z 1 2 3\n0: b = z 1 2\n0: c = z 9\n0: c = add_wuz a b\n0: get c\n";
+    let text = b"0 ok\n0 ok\n0 ok\n0 fault 3\n0 z 9\n";
+    assert!(rt; answers(&rt, &["serial"], script, text, 0)?);
+    Ok(())
+}
+
+#[test]
+fn scans_onto_its_operand(rt: HostRuntime) -> Result<(), Fail> {
+    let script = b"0: a = z 1 1 1\n0: a = add_suz a\n0: get a\n";
+    assert!(rt; answers(&rt, &["serial"], script, b"0 ok\n0 ok\n0 z 0 1 2\n", 0)?);
+    Ok(())
+}
+
+#[test]
+fn counts_the_new_value(rt: HostRuntime) -> Result<(), Fail> {
+    let script = b"0: a = z 1 2 3 4\n0: b = z 4 5\n0: a = z 1\n0: b = z 4 5\n0: c = z 6\n0: d = z 7\n0: d = z\n";
+    let text = b"0 ok\n0 fault 9\n0 ok\n0 ok\n0 ok\n0 fault 9\n0 ok\n";
+    assert!(rt; answers(&rt, &["serial", "4"], script, text, 0)?);
+    Ok(())
+}
+
+#[test]
+fn ends_at_a_bad_line(rt: HostRuntime) -> Result<(), Fail> {
+    let script = b"0: a = z 1\n# note\n0: a = z 01\n0: get a\n";
+    assert!(rt; answers(&rt, &["serial"], script, b"0 ok\nbad line 3\n", 2)?);
+    let script = b"0: a = z 1\n# note\n0: a = z 01";
+    assert!(rt; answers(&rt, &["serial"], script, b"0 ok\nbad line 3\n", 2)?);
+    assert!(rt; answers(&rt, &["serial"], b"0: get", b"bad line 1\n", 2)?);
+    assert!(rt; answers(&rt, &["serial"], b"0: a = z -0", b"bad line 1\n", 2)?);
+    Ok(())
+}
