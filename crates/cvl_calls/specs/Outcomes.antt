@@ -1,5 +1,5 @@
 -- What a call makes of its operands, and what is replied.
-use Rattle.std.specs.Prelude.{◌≡◌, ◌≤◌, ℤ, Bool, List, map, Option, Result, Ok, Err, if◌then◌else◌}
+use Rattle.std.specs.Prelude.{◌≡◌, ◌≤◌, ℤ, Bool, List, map, Option, Result, Ok, Err, IsOk, if◌then◌else◌}
 use Rattle.vector_memory.specs.Contents.{Content, content_of, size_of}
 use Rattle.vector_memory.specs.States.{State, value_at, item_limit}
 use Rattle.cvl_calls.specs.declared.fault.Fault.{Fault}
@@ -56,9 +56,14 @@ abbrev pub ◌>>=◌ : {A B : Type 0} → Result A Fault → (A → Result B Fau
 abbrev pub check : Bool → Fault → Result (Unit {0}) Fault
 check holds fault = if holds then Ok tt else Err fault
 
--- What a function returned, seen by view, is what the definition says, unless memory ran out.
+-- what was returned, seen by view
+abbrev pub viewed : {X Y : Type 0} → (X → Y) → Result X Fault → Result Y Fault
+viewed view (Ok x) = Ok (view x)
+viewed view (Err f) = Err f
+
+-- What a function returned, seen by view, is what the definition says; memory runs out only where there is no fault.
 abbrev pub Fails : {Y : Type 0} → Stop → Result Y Fault → Type 0
-Fails stops.OutOfMemory said = Unit {0}
+Fails stops.OutOfMemory said = IsOk said
 Fails (stops.Fault f) said = said ≡ Err f
 
 abbrev pub Gives : {X Y : Type 0} → (X → Y) → Result X Stop → Result Y Fault → Type 0

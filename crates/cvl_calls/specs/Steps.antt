@@ -1,5 +1,5 @@
 -- One step of the machine.
-use Rattle.std.specs.Prelude.{Option, Some, None, Result, Ok, Err}
+use Rattle.std.specs.Prelude.{◌≡◌, Option, Some, None, Result, Ok, Err, IsOk}
 use Rattle.vector_memory.specs.declared.name.Name.{Name}
 use Rattle.vector_memory.specs.declared.memory.StoreFault.{StoreFault}
 use Rattle.vector_memory.specs.declared.memory.StoreFault.TheVariants as refusals
@@ -43,3 +43,12 @@ followed m to (Err fault) = record { memory = m; answer = FaultOf fault }
 
 abbrev pub stepped : State → Task → Stepped
 stepped m t = followed m (target t) (work t.word (operands_of m t.arguments))
+
+-- What the call reads gives no fault: the one case in which a step may run out of memory.
+abbrev pub IsFaultless : State → Task → Type 0
+IsFaultless m t = IsOk (work t.word (operands_of m t.arguments))
+
+-- An effect that stores a value for which the memory has room: the one case in which its doing may run out of memory.
+abbrev pub Grows : State → Option Name → Effect → Type 0
+Grows m (Some n) (Stores v) = refusal m n v ≡ None
+Grows _ _ _ = ⊥

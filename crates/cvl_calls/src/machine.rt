@@ -1,9 +1,9 @@
-ghost use Rattle.std.specs.Prelude.{◌≡◌, ◌≤◌, IfOk, OnErr};
+ghost use Rattle.std.specs.Prelude.{◌≡◌, ◌≤◌, None, IfOk, OnErr};
 ghost use Rattle.vector_memory.specs.Contents.{content_of, size_of};
-ghost use Rattle.vector_memory.specs.States.{item_limit};
+ghost use Rattle.vector_memory.specs.States.{item_limit, refusal};
 ghost use Rattle.cvl_calls.specs.Tasks.{task_of};
 ghost use Rattle.cvl_calls.specs.Outcomes.{answer_of, effect_of, IsShortEffect};
-ghost use Rattle.cvl_calls.specs.Steps.{Stepped, applied, stepped, stored};
+ghost use Rattle.cvl_calls.specs.Steps.{Grows, IsFaultless, applied, stepped, stored};
 
 use crate::call::{Call, target};
 use crate::fault::{Fault, Stop};
@@ -16,6 +16,7 @@ fn store(memory: &mut Memory, to: Name, value: Value) -> Result<Reply, OutOfMemo
     requires { size_of (content_of value) ≤ item_limit }
     ensures ok { IfOk result (λ reply. stored memory.old to (content_of value)
         ≡ record { memory = memory.new; answer = answer_of reply }) }
+    ensures grows { OnErr result (refusal memory.old to (content_of value) ≡ None) }
     ensures err { OnErr result (memory.new ≡ memory.old) }
 {
     match memory.store(to, value) {
@@ -26,11 +27,13 @@ fn store(memory: &mut Memory, to: Name, value: Value) -> Result<Reply, OutOfMemo
     }
 }
 
-/// Does to the memory what a call made of its operands.
+/// Stores at the target what a call made of its operands, or hands its reply on. The value is one that `work` made: no
+/// longer than a value may be. A refused store is a fault, and it and a want of memory leave the memory as it was.
 pub fn apply(memory: &mut Memory, to: Option<Name>, product: Product) -> Result<Reply, OutOfMemory>
     requires { IsShortEffect (effect_of product) }
     ensures ok { IfOk result (λ reply. applied memory.old to (effect_of product)
         ≡ record { memory = memory.new; answer = answer_of reply }) }
+    ensures grows { OnErr result (Grows memory.old to (effect_of product)) }
     ensures err { OnErr result (memory.new ≡ memory.old) }
 {
     match product {
@@ -42,10 +45,11 @@ pub fn apply(memory: &mut Memory, to: Option<Name>, product: Product) -> Result<
     }
 }
 
-/// One step of the machine.
+/// Runs a call on a memory: `work`, and then `apply`. A fault is a reply, and it and a want of memory leave the memory as it was.
 pub fn step(alloc: Global, memory: &mut Memory, call: &Call) -> Result<Reply, OutOfMemory>
     ensures ok { IfOk result (λ reply. stepped memory.old (task_of call.now)
         ≡ record { memory = memory.new; answer = answer_of reply }) }
+    ensures faultless { OnErr result (IsFaultless memory.old (task_of call.now)) }
     ensures err { OnErr result (memory.new ≡ memory.old) }
 {
     let _room = memory.room();

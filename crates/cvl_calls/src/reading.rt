@@ -1,17 +1,16 @@
 //! Calls from the words of their lines.
 
-ghost use Rattle.std.specs.Prelude.{◌≡◌, [], ◌∷◌, Option, Some, None, is_some, length};
+ghost use Rattle.std.specs.Prelude.{◌≡◌, [], ◌∷◌, Option, Some, None, is_some};
 ghost use Rattle.std.specs.Option.{option_map};
-ghost use Rattle.vector_memory.specs.Names.{name_of};
 ghost use Rattle.cvl_calls.specs.Words.{words_of};
-ghost use Rattle.cvl_calls.specs.Tasks.{Vector, Numbers, task_of};
+ghost use Rattle.cvl_calls.specs.Tasks.{Vector, task_of};
 ghost use Rattle.cvl_calls.specs.Numbers.{number_of};
 ghost use Rattle.cvl_calls.specs.Lines.{Reads, NameKind, all_of, arguments_in, targeted, untargeted, behind_target, without_target, task_in};
 
 use crate::call::Call;
 use crate::fault::ReadFault;
 use crate::number::number_of;
-use crate::text::next_word;
+use crate::text::{count_words, next_word};
 use crate::word::{Word, word_of};
 use std::alloc::Global;
 use vector_memory::Name;
@@ -37,19 +36,6 @@ fn two_names(text: &[u8]) -> Option<(Name, Name)>
     let a = Name::read(first)?;
     let b = one_name(rest)?;
     Some((a, b))
-}
-
-/// The number of words.
-fn count_words(text: &[u8]) -> usize
-    ensures { result ≡ length (words_of text.now) }
-{
-    let mut count = 0;
-    let mut rest = text;
-    while let Some((_, after)) = next_word(rest) {
-        count += 1;
-        rest = after;
-    }
-    count
 }
 
 /// Whether every word is a number.

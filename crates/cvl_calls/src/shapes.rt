@@ -1,8 +1,8 @@
-ghost use Rattle.std.specs.Prelude.{Ok, Err};
+ghost use Rattle.std.specs.Prelude.{◌≡◌};
 ghost use Rattle.vector_memory.specs.Contents.{content_of};
 ghost use Rattle.vector_memory.specs.States.{value_at};
 ghost use Rattle.cvl_calls.specs.Tasks.{task_of};
-ghost use Rattle.cvl_calls.specs.Outcomes.{Gives, Held, NumbersGiven, effect_of, operands_of};
+ghost use Rattle.cvl_calls.specs.Outcomes.{Gives, Held, NumbersGiven, effect_of, operands_of, viewed};
 ghost use Rattle.cvl_calls.specs.Work.{any_value, ints, set_ints, get, map_ints, scan_ints, work};
 
 use crate::call::Call;
@@ -20,17 +20,14 @@ pub enum Product {
     Reply(Reply),
 }
 
-fn any_value<'a>(memory: &'a Memory, a: &Name) -> Result<&'a Value, Stop>
-    ensures { Gives (λ v. content_of v.now) result (any_value (Held (value_at memory.now a.now))) }
+fn any_value<'a>(memory: &'a Memory, a: &Name) -> Result<&'a Value, Fault>
+    ensures { viewed (λ v. content_of v.now) result ≡ any_value (Held (value_at memory.now a.now)) }
 {
-    match memory.get(a) {
-        Some(value) => Ok(value),
-        None => Err(Stop::Fault(Fault::NoVector)),
-    }
+    memory.get(a).ok_or(Fault::NoVector)
 }
 
-fn ints<'a>(memory: &'a Memory, a: &Name) -> Result<&'a [i64], Stop>
-    ensures { Gives (λ xs. xs.now) result (ints (Held (value_at memory.now a.now))) }
+fn ints<'a>(memory: &'a Memory, a: &Name) -> Result<&'a [i64], Fault>
+    ensures { viewed (λ xs. xs.now) result ≡ ints (Held (value_at memory.now a.now)) }
 {
     match any_value(memory, a)? {
         Value::Ints(items) => Ok(items.as_slice()),
@@ -75,7 +72,7 @@ fn scan_ints(alloc: Global, memory: &Memory, op: ScanZ, a: &Name) -> Result<Prod
     Ok(Product::Store(Value::Ints(kernels::scan_z(alloc, op, xs)?)))
 }
 
-/// The result of a call, or its first fault.
+/// The result of a call, or its first fault, from the values that it reads. Nothing is written.
 pub fn work(alloc: Global, memory: &Memory, call: &Call) -> Result<Product, Stop>
     ensures { let task = task_of call.now in
         Gives effect_of result (work task.word (operands_of memory.now task.arguments)) }

@@ -1,6 +1,3 @@
-ghost use Rattle.std.specs.Prelude.{◌≤◌};
-ghost use Rattle.vector_memory.specs.States.{room_limit};
-
 use crate::{
     Call, Fault, Product, ReadFault, Reply, ScanZ, Stop, Z2, apply, lines_read_back, next_word,
     reads, scans_reduce_prefixes, step, target, work, write_value,

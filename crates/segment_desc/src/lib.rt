@@ -1,5 +1,5 @@
-//! Segments: a vector cut into parts by a list of lengths (Blelloch, Vector Models for Data-Parallel Computing, 1990).
-//! Of this layer stands the one error that every crate above shares, the want of memory.
+//! The lowest layer, where vectors are cut into segments by lists of lengths (Blelloch, Vector Models for Data-Parallel
+//! Computing, 1990). It defines the error that every crate above shares, the want of memory.
 #![tactic(auto)]
 
 mod memory;

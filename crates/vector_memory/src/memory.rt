@@ -176,12 +176,10 @@ impl Memory {
             Err(fault) => return Err(fault),
         };
         match put_at(&mut self.values, place.index, name, value) {
-            Ok(()) => {
-                self.cells = place.cells;
-                Ok(())
-            }
-            Err(OutOfMemory) => Err(StoreFault::OutOfMemory),
+            Ok(()) => self.cells = place.cells,
+            Err(OutOfMemory) => return Err(StoreFault::OutOfMemory),
         }
+        Ok(())
     }
 }
 
