@@ -149,7 +149,7 @@ impl Run {
         ensures stop { IfErr result (λ fault. (script : List ℕ) (others : List (List ℕ))
             → lines_of script ≡ (self.old.partial.items ++ end.now) ∷ others
             → IsStop fault self.old.memory self.old.number script self.old.waiting.items
-                (W.written writer.old) (W.written writer.new)) }
+            (W.written writer.old) (W.written writer.new)) }
         ensures failed { result ≡ Err RunFault.Write → W.failures writer.old < W.failures writer.new }
     {
         if let Err(fault) = self.finish_line(alloc, end) {
@@ -182,7 +182,7 @@ impl Run {
         // Whatever comes behind the rest.
         ensures stop { IfErr result (λ fault. (more : List ℕ)
             → IsStop fault self.old.memory self.old.number ((self.old.partial.items ++ rest.now) ++ more)
-                self.old.waiting.items (W.written writer.old) (W.written writer.new)) }
+            self.old.waiting.items (W.written writer.old) (W.written writer.new)) }
         ensures failed { result ≡ Err RunFault.Write → W.failures writer.old < W.failures writer.new }
     {
         if rest.len() > LINE_LIMIT - self.partial.len() {
@@ -213,7 +213,7 @@ impl Run {
         requires none { self.old.waiting.items ≡ [] }
         ensures served { OnOk result ((made : List ℕ)
             × Serves self.old.memory self.old.number (self.old.partial.items ++ text.now) made
-                self.new.memory self.new.number self.new.partial.items
+            self.new.memory self.new.number self.new.partial.items
             × Awaits (W.written writer.old) (W.written writer.new) [] made) }
         ensures number { OnOk result (self.new.number + vec_len self.new.partial
             ≤ self.old.number + vec_len self.old.partial + length text.now) }
@@ -225,7 +225,7 @@ impl Run {
         // Whatever comes behind the text.
         ensures stop { IfErr result (λ fault. (more : List ℕ)
             → IsStop fault self.old.memory self.old.number ((self.old.partial.items ++ text.now) ++ more) []
-                (W.written writer.old) (W.written writer.new)) }
+            (W.written writer.old) (W.written writer.new)) }
         ensures failed { result ≡ Err RunFault.Write → W.failures writer.old < W.failures writer.new }
     {
         let mut rest = text;
@@ -237,7 +237,11 @@ impl Run {
     }
 
     /// Serves what stands behind the last line feed at the end of the input, and writes the reply to it.
-    pub(crate) fn serve_last<W: Sink>(&mut self, alloc: Global, writer: &mut W) -> Result<(), RunFault>
+    pub(crate) fn serve_last<W: Sink>(
+        &mut self,
+        alloc: Global,
+        writer: &mut W,
+    ) -> Result<(), RunFault>
         requires number { self.old.number + 1 < 2 ^ 64 }
         requires ready { W.can_write writer.old }
         requires one_line { IsOneLine self.old.partial.items }

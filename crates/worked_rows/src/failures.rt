@@ -10,7 +10,11 @@ const SCRIPT: &[u8] = b"0: a = z 1 2\n# five lines\n1: a = add_wuz a a\n2: get a
 fn text_of_lines(rt: &HostRuntime, read: usize) -> Result<Vec<u8>, Fail> {
     let replies: [&[u8]; 5] = [b"0 ok\n", b"", b"1 ok\n", b"2 z 2 4\n", b"3 fault 1\n"];
     let mut text = Vec::new(rt.alloc());
-    let ends = SCRIPT.iter().take(read).filter(|byte| **byte == b'\n').count();
+    let ends = SCRIPT
+        .iter()
+        .take(read)
+        .filter(|byte| **byte == b'\n')
+        .count();
     for reply in replies.iter().take(ends) {
         text.extend_from_slice(reply)?;
     }
@@ -26,7 +30,12 @@ fn fails_to_read_at_each_call(rt: HostRuntime) -> Result<(), Fail> {
                 step,
                 fails: Some(call as u64),
             };
-            let ran = run_on(&rt, &["serial"], reader, writer(&rt, 1000, 1000, Full::Fails))?;
+            let ran = run_on(
+                &rt,
+                &["serial"],
+                reader,
+                writer(&rt, 1000, 1000, Full::Fails),
+            )?;
             let read = SCRIPT.len().min(call.saturating_mul(step));
             assert!(rt; ran.text == text_of_lines(&rt, read)? && ran.status == 4);
         }
@@ -77,7 +86,12 @@ fn bad_line_before_a_failed_read(rt: HostRuntime) -> Result<(), Fail> {
         step: 6,
         fails: Some(1),
     };
-    let ran = run_on(&rt, &["serial"], reader, writer(&rt, 1000, 1000, Full::Fails))?;
+    let ran = run_on(
+        &rt,
+        &["serial"],
+        reader,
+        writer(&rt, 1000, 1000, Full::Fails),
+    )?;
     assert!(rt; ran.text.as_slice() == b"bad line 1\n".as_slice() && ran.status == 2);
     Ok(())
 }

@@ -48,8 +48,14 @@ fn good_lines(rt: HostRuntime) -> Result<(), Fail> {
         (b"0: a = z 1", b"0 ok\n"),
         (b"  63:   a  =  z   1  \n", b"63 ok\n"),
         (b"9: abcdefghijklmnop = z\n", b"9 ok\n"),
-        (b"0: get z\n0: z = z 1\n0: get z\n", b"0 fault 1\n0 ok\n0 z 1\n"),
-        (b"0: z = z\n0: z = add_suz z\n0: get z\n", b"0 ok\n0 ok\n0 z\n"),
+        (
+            b"0: get z\n0: z = z 1\n0: get z\n",
+            b"0 fault 1\n0 ok\n0 z 1\n",
+        ),
+        (
+            b"0: z = z\n0: z = add_suz z\n0: get z\n",
+            b"0 ok\n0 ok\n0 z\n",
+        ),
         (
             b"0: a = z -9223372036854775808 9223372036854775807 0\n0: get a\n",
             b"0 ok\n0 z -9223372036854775808 9223372036854775807 0\n",
@@ -66,12 +72,7 @@ fn good_lines(rt: HostRuntime) -> Result<(), Fail> {
 }
 
 /// `first`, and this many bytes behind it.
-fn with_tail(
-    rt: &HostRuntime,
-    first: &[u8],
-    byte: u8,
-    count: usize,
-) -> Result<Vec<u8>, Fail> {
+fn with_tail(rt: &HostRuntime, first: &[u8], byte: u8, count: usize) -> Result<Vec<u8>, Fail> {
     let mut line = Vec::from_slice(rt.alloc(), first)?;
     for _ in 0..count {
         line.push(byte)?;

@@ -48,7 +48,12 @@ pub fn run(rt: &HostRuntime, arguments: &[&str], script: &[u8], step: usize) -> 
         step,
         fails: None,
     };
-    run_on(rt, arguments, reader, writer(rt, 1000, usize::MAX, Full::Fails))
+    run_on(
+        rt,
+        arguments,
+        reader,
+        writer(rt, 1000, usize::MAX, Full::Fails),
+    )
 }
 
 /// Whether the program answers a script with this text and this status, however the script is cut by reads.

@@ -12,7 +12,15 @@ fn empty_script(rt: HostRuntime) -> Result<(), Fail> {
 #[test]
 fn adds_two_vectors(rt: HostRuntime) -> Result<(), Fail> {
     let script = b"0: a = z 1 2 3\n0: b = z 10 20 30\n0: c = add_wuz a b\n0: get c\n";
-    assert!(rt; answers(&rt, &["serial"], script, b"0 ok\n0 ok\n0 ok\n0 z 11 22 33\n", 0)?);
+    assert!(rt;
+        answers(
+            &rt,
+            &["serial"],
+            script,
+            b"0 ok\n0 ok\n0 ok\n0 z 11 22 33\n",
+            0
+        )?
+    );
     Ok(())
 }
 
@@ -33,7 +41,8 @@ fn scans_onto_its_operand(rt: HostRuntime) -> Result<(), Fail> {
 
 #[test]
 fn counts_the_new_value(rt: HostRuntime) -> Result<(), Fail> {
-    let script = b"0: a = z 1 2 3 4\n0: b = z 4 5\n0: a = z 1\n0: b = z 4 5\n0: c = z 6\n0: d = z 7\n0: d = z\n";
+    let script =
+        b"0: a = z 1 2 3 4\n0: b = z 4 5\n0: a = z 1\n0: b = z 4 5\n0: c = z 6\n0: d = z 7\n0: d = z\n";
     let text = b"0 ok\n0 fault 9\n0 ok\n0 ok\n0 ok\n0 fault 9\n0 ok\n";
     assert!(rt; answers(&rt, &["serial", "4"], script, text, 0)?);
     Ok(())

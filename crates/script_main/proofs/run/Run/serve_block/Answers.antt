@@ -48,9 +48,11 @@ loop-end-preserved g c =
       number = omega (arith, said.number, kept.number);
       one_line = subst (λ (t : List ℕ). IsOneLine t) (sym none) refl;
       short = omega arith;
-      served = (made ++ line_text run.memory (line_of line),
+      served = (
+        made ++ line_text run.memory (line_of line),
         rw (said.memory, said.number, none) served,
-        Awaits-then (g.W.Sink.written c.args.writer.now) (g.W.Sink.written c.loop-end.writer) (g.W.Sink.written c.serve_next.new.writer) run.waiting.items made (line_text run.memory (line_of line)) next.waiting.items kept.served.2 said.text);
+        Awaits-then (g.W.Sink.written c.args.writer.now) (g.W.Sink.written c.loop-end.writer) (g.W.Sink.written c.serve_next.new.writer) run.waiting.items made (line_text run.memory (line_of line)) next.waiting.items kept.served.2 said.text,
+      );
     }
 
 pub returns-in_err-serve_next-clause-stop : goal.returns-in_err-serve_next-clause-stop
