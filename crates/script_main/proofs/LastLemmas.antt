@@ -1,5 +1,5 @@
 -- The line behind the last line feed, at the end of the input: it is the only line that is left, or there is none.
-use Rattle.std.proofs.Common.{◌≡◌, ℕ, ◌+◌, ◌<◌, true, List, [], ◌∷◌, ◌++◌, length, refl, sym, ap, ◌∙◌, None}
+use Rattle.std.proofs.Common.{◌≡◌, ℕ, ◌<◌, true, List, [], ◌∷◌, ◌++◌, length, refl, sym, ap, ◌∙◌, None}
 use Rattle.std.proofs.lemmas.List.{append-nil}
 use Rattle.vector_memory.specs.States.{State}
 use Rattle.script_main.specs.Scripts.{IsOneLine, lines_of, text_of, bad_line_of, line_of, is_good, line_text}

@@ -1,5 +1,5 @@
 -- What the program does with the words behind its name.
-use Rattle.std.specs.Prelude.{◌≡◌, ◌++◌, ◌<◌, ◌⊎◌, ℕ, List, [], ◌∷◌, Option, Some, None, Result, Ok, Err, IfSome, codes}
+use Rattle.std.specs.Prelude.{◌≡◌, ◌++◌, ◌<◌, ◌⊎◌, ℕ, List, [], ◌∷◌, Option, Result, Ok, Err, IfSome, codes}
 use Rattle.std.specs.Fmt.{decimal}
 use Rattle.vector_memory.specs.States.{State, room_limit, IsLawfulRoom}
 use Rattle.script_main.specs.declared.fault.RunFault.{RunFault}

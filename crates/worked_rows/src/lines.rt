@@ -39,10 +39,11 @@ fn bad_lines(rt: HostRuntime) -> Result<(), Fail> {
 
 #[test]
 fn good_lines(rt: HostRuntime) -> Result<(), Fail> {
-    let good: [(&[u8], &[u8]); 12] = [
+    let good: [(&[u8], &[u8]); 13] = [
         (b"\n\n", b""),
         (b"   \n", b""),
         (b"#", b""),
+        (b"#\xc8", b""),
         (b"# 64: \xc8\t\r", b""),
         (b"  #0: get\n", b""),
         (b"0: a = z 1", b"0 ok\n"),

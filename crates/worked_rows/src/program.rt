@@ -1,7 +1,7 @@
 //! The program over memory, and its arguments.
 
 use crate::streams::{Full, Pieces, Short};
-use script_main::{ReadSource, WriteSink, run_program};
+use script_main::{ReadSource, RunFault, WriteSink, run_program, run_serial};
 use std::test::Fail;
 
 /// What the program wrote, and its exit status.
@@ -107,6 +107,28 @@ fn rooms_from_the_arguments(rt: HostRuntime) -> Result<(), Fail> {
     assert!(rt; answers(&rt, &["serial", "1"], script, b"0 ok\n0 fault 9\n", 0)?);
     assert!(rt; answers(&rt, &["serial", "2"], script, b"0 ok\n0 ok\n", 0)?);
     assert!(rt; answers(&rt, &["serial", "67108864"], script, b"0 ok\n0 ok\n", 0)?);
+    Ok(())
+}
+
+/// `run_serial` tells how a run ended.
+#[test]
+fn tells_how_a_run_ended(rt: HostRuntime) -> Result<(), Fail> {
+    let ends: [(&[u8], Option<u64>, usize, Result<(), RunFault>); 5] = [
+        (b"0: a = z 1\n", None, 1000, Ok(())),
+        (b"0: a = z 1\n\noh\n", None, 1000, Err(RunFault::BadLine(3))),
+        (b"0: a = z 1\n", Some(0), 1000, Err(RunFault::Read)),
+        (b"0: a = z 1\n", None, 3, Err(RunFault::Write)),
+        (b"oh", None, 3, Err(RunFault::Write)),
+    ];
+    for (bytes, fails, left, end) in ends {
+        let mut source = ReadSource::new(Pieces {
+            bytes,
+            step: 1000,
+            fails,
+        });
+        let mut sink = WriteSink::new(writer(&rt, 1000, left, Full::Fails));
+        assert!(rt; run_serial(rt.alloc(), 4, &mut source, &mut sink) == end);
+    }
     Ok(())
 }
 

@@ -1,4 +1,4 @@
-use Rattle.std.proofs.Common.{◌≡◌, ℕ, List, [], ◌∷◌, map, sym, ap, ◌∙◌, subst, refl, rules}
+use Rattle.std.proofs.Common.{◌≡◌, ℕ, List, sym, subst, refl, rules}
 use Rattle.std.specs.Prelude.{string_bytes, MatchOption}
 use Rattle.std.specs.Fmt.{decimal}
 use Rattle.std.proofs.lemmas.Bool.{eqb-true}

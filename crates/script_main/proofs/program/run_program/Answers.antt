@@ -1,5 +1,5 @@
-use Rattle.std.proofs.Common.{◌≡◌, ℕ, Some, sym, ◌∙◌, subst}
-use Rattle.vector_memory.specs.States.{State, empty}
+use Rattle.std.proofs.Common.{◌≡◌, ℕ, subst}
+use Rattle.vector_memory.specs.States.{empty}
 use Rattle.script_main.specs.Programs.{HasRun}
 use Rattle.script_main.proofs.WordLemmas.{Asks-same}
 use Rattle.script_main.proofs.program.run_program.Goals as goal

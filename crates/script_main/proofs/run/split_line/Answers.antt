@@ -1,4 +1,4 @@
-use Rattle.std.proofs.Common.{◌≡◌, ◌++◌, ◌∷◌, ◌+◌, drop, take}
+use Rattle.std.proofs.Common.{◌+◌}
 use Rattle.std.proofs.lemmas.List.{take_rest}
 use Rattle.script_main.proofs.FeedLemmas.{no-feed, no-feed-before, cut-at}
 use Rattle.script_main.proofs.run.split_line.Goals as goal

@@ -1,12 +1,11 @@
-use Rattle.std.proofs.Common.{◌≡◌, ◌≤◌, ◌<◌, ◌+◌, ◌++◌, [], List, ℕ, Result, Err, IfSome, length, vec_len, take, sym, ap, ◌∙◌, subst, refl, arith, rules}
+use Rattle.std.proofs.Common.{◌≡◌, ◌<◌, ◌++◌, [], List, ℕ, Result, Err, IfSome, length, vec_len, take, sym, ap, ◌∙◌, subst, refl, arith}
 use Rattle.std.specs.Io.KnownBytes.{Consumes}
 use Rattle.std.proofs.lemmas.List.{length-take}
 use Rattle.std.proofs.lemmas.Result.{err_from_is_err_and}
 use Rattle.script_main.specs.declared.fault.RunFault.{RunFault}
-use Rattle.script_main.specs.declared.fault.RunFault.TheVariants as stops
 use Rattle.script_main.specs.Scripts.{IsOneLine}
 use Rattle.script_main.specs.Runs.{Runs, IsStop, IsCounted}
-use Rattle.script_main.proofs.Progress.{Progress, Progress-start, Progress-read, Progress-stop, Progress-read_stop, Progress-last}
+use Rattle.script_main.proofs.Progress.{Progress-start, Progress-read, Progress-stop, Progress-read_stop, Progress-last}
 use Rattle.script_main.proofs.StopLemmas.{handed-out, counted-served}
 use Rattle.script_main.proofs.serial.serve_input.Goals as goal
 

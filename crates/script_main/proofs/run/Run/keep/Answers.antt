@@ -1,4 +1,4 @@
-use Rattle.std.proofs.Common.{◌<◌, ◌++◌, List, ℕ, length, arith}
+use Rattle.std.proofs.Common.{◌<◌, ◌++◌, length, arith}
 use Rattle.std.proofs.lemmas.List.{length-append}
 use Rattle.script_main.specs.declared.line.LineFault.TheVariants as faults
 use Rattle.script_main.specs.Scripts.{line_limit, text_of}

@@ -1,9 +1,9 @@
-use Rattle.std.proofs.Common.{◌≡◌, ◌≤◌, ◌+◌, ◌++◌, ◌∷◌, [], List, ℕ, length, vec_len, IfErr, sym, ap, ◌∙◌, subst, refl, arith, rules}
+use Rattle.std.proofs.Common.{◌≡◌, ◌+◌, ◌++◌, [], List, ℕ, length, vec_len, sym, ap, ◌∙◌, subst, refl, arith}
 use Rattle.std.proofs.lemmas.List.{length-append}
 use Rattle.std.proofs.lemmas.Result.{err_from_is_err_and, IfErr-weaker}
 use Rattle.script_main.specs.declared.fault.RunFault.{RunFault}
-use Rattle.script_main.specs.Scripts.{IsOneLine, line_limit, line_of, is_good, line_text, memory_after_line, lines_of}
-use Rattle.script_main.specs.Runs.{Serves, IsStop}
+use Rattle.script_main.specs.Scripts.{IsOneLine, line_of, line_text, lines_of}
+use Rattle.script_main.specs.Runs.{IsStop}
 use Rattle.script_main.specs.Streams.{Awaits}
 use Rattle.script_main.proofs.PieceLemmas.{lines_of-next}
 use Rattle.script_main.proofs.StreamLemmas.{Awaits-start, Awaits-then}

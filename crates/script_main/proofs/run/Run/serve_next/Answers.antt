@@ -1,5 +1,4 @@
-use Rattle.std.proofs.Common.{◌≡◌, ◌++◌, List, ℕ, Err, ap, ◌∙◌, subst, rules}
-use Rattle.script_main.specs.Scripts.{line_of, is_good}
+use Rattle.std.proofs.Common.{◌++◌, List, ℕ, Err, ap, ◌∙◌, subst}
 use Rattle.script_main.specs.Streams.{HasBegun}
 use Rattle.script_main.specs.Runs.{IsFarewell}
 use Rattle.script_main.proofs.StopLemmas.{line-stop, write-stop}
