@@ -9,35 +9,56 @@ use Rattle.std.proofs.lemmas.List.{append-nil}
 use Rattle.vector_memory.specs.declared.name.Name.{Name}
 use Rattle.vector_memory.specs.Names.{name_of}
 use Rattle.cvl_calls.specs.declared.word.Word.{Word}
-use Rattle.cvl_calls.specs.Lines.{Kind, NameKind, NumbersKind, kinds_of, is_targeted, ◌>>=◌, all_of, arguments_in, targeted, untargeted, behind_target, without_target, task_in}
+use Rattle.cvl_calls.specs.Lines.{Kind, NameKind, NumberKind, NumbersKind, TruthsKind, kinds_of, is_targeted, ◌>>=◌, all_of, arguments_in, targeted, untargeted, behind_target, without_target, task_in}
 use Rattle.cvl_calls.specs.Numbers.{is_in_range, number_of}
-use Rattle.cvl_calls.specs.Tasks.{Argument, Vector, Numbers, Task}
+use Rattle.cvl_calls.specs.Tasks.{Argument, Vector, Number, Numbers, Truths, Task}
 use Rattle.cvl_calls.specs.TaskTexts.{argument_words, target_words, task_words, AreWritable, IsWritableTarget, CanBeWritten}
+use Rattle.cvl_calls.specs.TruthValues.{truth_text, truth_of}
 use Rattle.cvl_calls.specs.Words.{same_text, word_text, word_of}
 use Rattle.cvl_calls.proofs.NameTexts.{name_of-read, IsWord-name}
 use Rattle.cvl_calls.proofs.NumberTexts.{signed_decimal-read, number_of-signed_decimal, number_of-equals, IsWord-number}
 use Rattle.cvl_calls.proofs.Spaced.{IsWord}
 use Rattle.cvl_calls.proofs.Truths.{bind_some}
+use Rattle.cvl_calls.proofs.TruthTexts.{truth_text-read, truth_of-truth_text, IsWord-truth}
 use Rattle.cvl_calls.proofs.WordTexts.{word_text-read, word_of-word_text, IsWord-word}
 
 abbrev AreInRange : List ℤ → Type 0
 AreInRange xs = AllByRecursion (λ x. IsTrue (is_in_range x)) xs
 
-all_of-sound : (ws : List (List ℕ)) (xs : List ℤ) → all_of number_of ws ≡ Some xs → AreInRange xs × (map signed_decimal xs ≡ ws)
-all_of-sound [] xs e =
-    let same : [] ≡ xs = cc in
-    subst (λ (ys : List ℤ). AreInRange ys × (map signed_decimal ys ≡ [])) same (tt, refl)
-all_of-sound (w ∷ ws) xs e =
-    let first = bind_some (number_of w) _ xs e in
-    let later = bind_some (all_of number_of ws) _ xs first.2 in
-    let same : first.0 ∷ later.0 ≡ xs = cc (later.2) in
-    let number = signed_decimal-read w first.0 first.1 in
-    let rest = all_of-sound ws later.0 later.1 in
-    subst (λ (ys : List ℤ). AreInRange ys × (map signed_decimal ys ≡ w ∷ ws)) same ((number.0, rest.0), rw (number.1, rest.1) refl)
+-- items that are read one from each word, and written as these words
+module _ {A : Type 0} (read : List ℕ → Option A) (text : A → List ℕ) (CanBe : A → Type 0) where
+  all_of-sound : ((w : List ℕ) (x : A) → read w ≡ Some x → CanBe x × (text x ≡ w)) → (ws : List (List ℕ)) (xs : List A) → all_of read ws ≡ Some xs
+      → AllByRecursion CanBe xs × (map text xs ≡ ws)
+  all_of-sound one [] xs e =
+      let same : [] ≡ xs = cc in
+      subst (λ (ys : List A). AllByRecursion CanBe ys × (map text ys ≡ [])) same (tt, refl)
+  all_of-sound one (w ∷ ws) xs e =
+      let first = bind_some (read w) _ xs e in
+      let later = bind_some (all_of read ws) _ xs first.2 in
+      let same : first.0 ∷ later.0 ≡ xs = cc (later.2) in
+      let item = one w first.0 first.1 in
+      let rest = all_of-sound one ws later.0 later.1 in
+      subst (λ (ys : List A). AllByRecursion CanBe ys × (map text ys ≡ w ∷ ws)) same ((item.0, rest.0), rw (item.1, rest.1) refl)
 
-all_of-complete : (xs : List ℤ) → AreInRange xs → all_of number_of (map signed_decimal xs) ≡ Some xs
-all_of-complete [] h = refl
-all_of-complete (x ∷ xs) h = rw (number_of-signed_decimal x h.0, all_of-complete xs h.1) refl
+  all_of-complete : ((x : A) → CanBe x → read (text x) ≡ Some x) → (xs : List A) → AllByRecursion CanBe xs → all_of read (map text xs) ≡ Some xs
+  all_of-complete one [] h = refl
+  all_of-complete one (x ∷ xs) h = rw (one x h.0, all_of-complete one xs h.1) refl
+
+numbers-sound : (ws : List (List ℕ)) (xs : List ℤ) → all_of number_of ws ≡ Some xs → AreInRange xs × (map signed_decimal xs ≡ ws)
+numbers-sound = all_of-sound number_of signed_decimal (λ x. IsTrue (is_in_range x)) signed_decimal-read
+
+numbers-complete : (xs : List ℤ) → AreInRange xs → all_of number_of (map signed_decimal xs) ≡ Some xs
+numbers-complete = all_of-complete number_of signed_decimal (λ x. IsTrue (is_in_range x)) number_of-signed_decimal
+
+AreAny : (bs : List Bool) → AllByRecursion (λ b. Unit {0}) bs
+AreAny [] = tt
+AreAny (b ∷ bs) = (tt, AreAny bs)
+
+truths-sound : (ws : List (List ℕ)) (bs : List Bool) → all_of truth_of ws ≡ Some bs → map truth_text bs ≡ ws
+truths-sound ws bs e = (all_of-sound truth_of truth_text (λ b. Unit {0}) (λ w b e. (tt, truth_text-read w b e)) ws bs e).1
+
+truths-complete : (bs : List Bool) → all_of truth_of (map truth_text bs) ≡ Some bs
+truths-complete bs = all_of-complete truth_of truth_text (λ b. Unit {0}) (λ b _. truth_of-truth_text b) bs (AreAny bs)
 
 -- the lawful arguments that words spell, and that spell these words
 abbrev Spells : List Kind → List (List ℕ) → List Argument → Type 0
@@ -54,22 +75,49 @@ arguments_in-sound (NameKind ∷ kinds) (w ∷ ws) arguments e =
     let text = name_of-read w name.0 name.1 in
     let rest = arguments_in-sound kinds ws others.0 others.1 in
     subst (Spells (NameKind ∷ kinds) (w ∷ ws)) same ((ap name_of text ∙ name.1, rest.0), ap (λ (t : List ℕ). t ∷ flat_map argument_words others.0) text ∙ ap (λ (ts : List (List ℕ)). w ∷ ts) rest.1)
+arguments_in-sound (NumberKind ∷ kinds) [] arguments e = absurd cc
+arguments_in-sound (NumberKind ∷ kinds) (w ∷ ws) arguments e =
+    let number = bind_some (number_of w) _ arguments e in
+    let others = bind_some (arguments_in kinds ws) _ arguments number.2 in
+    let same : Number number.0 ∷ others.0 ≡ arguments = cc (others.2) in
+    let read = signed_decimal-read w number.0 number.1 in
+    let rest = arguments_in-sound kinds ws others.0 others.1 in
+    subst (Spells (NumberKind ∷ kinds) (w ∷ ws)) same ((read.0, rest.0), ap (λ (t : List ℕ). t ∷ flat_map argument_words others.0) read.1 ∙ ap (λ (ts : List (List ℕ)). w ∷ ts) rest.1)
 arguments_in-sound (NumbersKind ∷ kinds) ws arguments e =
     let numbers = bind_some (all_of number_of ws) _ arguments e in
     let same : Numbers numbers.0 ∷ [] ≡ arguments = cc (numbers.2) in
-    let read = all_of-sound ws numbers.0 numbers.1 in
+    let read = numbers-sound ws numbers.0 numbers.1 in
     subst (Spells (NumbersKind ∷ kinds) ws) same (read.0, append-nil (map signed_decimal numbers.0) ∙ read.1)
+arguments_in-sound (TruthsKind ∷ kinds) ws arguments e =
+    let truths = bind_some (all_of truth_of ws) _ arguments e in
+    let same : Truths truths.0 ∷ [] ≡ arguments = cc (truths.2) in
+    subst (Spells (TruthsKind ∷ kinds) ws) same (tt, append-nil (map truth_text truths.0) ∙ truths-sound ws truths.0 truths.1)
 
 arguments_in-complete : (kinds : List Kind) (arguments : List Argument) → AreWritable kinds arguments → arguments_in kinds (flat_map argument_words arguments) ≡ Some arguments
 arguments_in-complete [] [] h = refl
 arguments_in-complete [] (a ∷ others) h = absurd h
 arguments_in-complete (NameKind ∷ kinds) [] h = absurd h
 arguments_in-complete (NameKind ∷ kinds) (Vector n ∷ others) h = rw (h.0, arguments_in-complete kinds others h.1) refl
+arguments_in-complete (NameKind ∷ kinds) (Number x ∷ others) h = absurd h
 arguments_in-complete (NameKind ∷ kinds) (Numbers xs ∷ others) h = absurd h
+arguments_in-complete (NameKind ∷ kinds) (Truths bs ∷ others) h = absurd h
+arguments_in-complete (NumberKind ∷ kinds) [] h = absurd h
+arguments_in-complete (NumberKind ∷ kinds) (Vector n ∷ others) h = absurd h
+arguments_in-complete (NumberKind ∷ kinds) (Number x ∷ others) h = rw (number_of-signed_decimal x h.0, arguments_in-complete kinds others h.1) refl
+arguments_in-complete (NumberKind ∷ kinds) (Numbers xs ∷ others) h = absurd h
+arguments_in-complete (NumberKind ∷ kinds) (Truths bs ∷ others) h = absurd h
 arguments_in-complete (NumbersKind ∷ kinds) [] h = absurd h
 arguments_in-complete (NumbersKind ∷ kinds) (Vector n ∷ others) h = absurd h
-arguments_in-complete (NumbersKind ∷ kinds) (Numbers xs ∷ []) h = rw (append-nil (map signed_decimal xs), all_of-complete xs h) refl
+arguments_in-complete (NumbersKind ∷ kinds) (Number x ∷ others) h = absurd h
+arguments_in-complete (NumbersKind ∷ kinds) (Numbers xs ∷ []) h = rw (append-nil (map signed_decimal xs), numbers-complete xs h) refl
 arguments_in-complete (NumbersKind ∷ kinds) (Numbers xs ∷ a ∷ others) h = absurd h
+arguments_in-complete (NumbersKind ∷ kinds) (Truths bs ∷ others) h = absurd h
+arguments_in-complete (TruthsKind ∷ kinds) [] h = absurd h
+arguments_in-complete (TruthsKind ∷ kinds) (Vector n ∷ others) h = absurd h
+arguments_in-complete (TruthsKind ∷ kinds) (Number x ∷ others) h = absurd h
+arguments_in-complete (TruthsKind ∷ kinds) (Numbers xs ∷ others) h = absurd h
+arguments_in-complete (TruthsKind ∷ kinds) (Truths bs ∷ []) h = rw (append-nil (map truth_text bs), truths-complete bs) refl
+arguments_in-complete (TruthsKind ∷ kinds) (Truths bs ∷ a ∷ others) h = absurd h
 
 -- `=` is no name and no number
 not_equals : {A : Type 0} (read : List ℕ → Option A) (v : List ℕ) (x : A) → (read (codes "=") ≡ Some x → ⊥) → read v ≡ Some x → same_text v (codes "=") ≡ false
@@ -84,6 +132,13 @@ first_not_equals [] v vs arguments e = absurd cc
 first_not_equals (NameKind ∷ kinds) v vs arguments e =
     let name = bind_some (name_of v) _ arguments e in
     not_equals name_of v name.0 (λ e. cc) name.1
+first_not_equals (NumberKind ∷ kinds) v vs arguments e =
+    let number = bind_some (number_of v) _ arguments e in
+    not_equals number_of v number.0 (number_of-equals number.0) number.1
+first_not_equals (TruthsKind ∷ kinds) v vs arguments e =
+    let truths = bind_some (all_of truth_of (v ∷ vs)) _ arguments e in
+    let first = bind_some (truth_of v) _ truths.0 truths.1 in
+    not_equals truth_of v first.0 (λ e. cc) first.1
 first_not_equals (NumbersKind ∷ kinds) v vs arguments e =
     let numbers = bind_some (all_of number_of (v ∷ vs)) _ arguments e in
     let first = bind_some (number_of v) _ numbers.0 numbers.1 in
@@ -178,14 +233,33 @@ AreWords-numbers : (xs : List ℤ) → AreInRange xs → AllByRecursion IsWord (
 AreWords-numbers [] h = tt
 AreWords-numbers (x ∷ xs) h = (IsWord-number x h.0, AreWords-numbers xs h.1)
 
+AreWords-truths : (bs : List Bool) → AllByRecursion IsWord (map truth_text bs)
+AreWords-truths [] = tt
+AreWords-truths (b ∷ bs) = (IsWord-truth b, AreWords-truths bs)
+
 AreWords-arguments : (kinds : List Kind) (arguments : List Argument) → AreWritable kinds arguments → AllByRecursion IsWord (flat_map argument_words arguments)
 AreWords-arguments [] [] h = tt
 AreWords-arguments [] (a ∷ others) h = absurd h
 AreWords-arguments (NameKind ∷ kinds) [] h = absurd h
 AreWords-arguments (NameKind ∷ kinds) (Vector n ∷ others) h = (IsWord-name n n h.0, AreWords-arguments kinds others h.1)
+AreWords-arguments (NameKind ∷ kinds) (Number x ∷ others) h = absurd h
 AreWords-arguments (NameKind ∷ kinds) (Numbers xs ∷ others) h = absurd h
+AreWords-arguments (NameKind ∷ kinds) (Truths bs ∷ others) h = absurd h
+AreWords-arguments (NumberKind ∷ kinds) [] h = absurd h
+AreWords-arguments (NumberKind ∷ kinds) (Vector n ∷ others) h = absurd h
+AreWords-arguments (NumberKind ∷ kinds) (Number x ∷ others) h = (IsWord-number x h.0, AreWords-arguments kinds others h.1)
+AreWords-arguments (NumberKind ∷ kinds) (Numbers xs ∷ others) h = absurd h
+AreWords-arguments (NumberKind ∷ kinds) (Truths bs ∷ others) h = absurd h
 AreWords-arguments (NumbersKind ∷ kinds) [] h = absurd h
 AreWords-arguments (NumbersKind ∷ kinds) (Vector n ∷ others) h = absurd h
+AreWords-arguments (NumbersKind ∷ kinds) (Number x ∷ others) h = absurd h
+AreWords-arguments (NumbersKind ∷ kinds) (Truths bs ∷ others) h = absurd h
+AreWords-arguments (TruthsKind ∷ kinds) [] h = absurd h
+AreWords-arguments (TruthsKind ∷ kinds) (Vector n ∷ others) h = absurd h
+AreWords-arguments (TruthsKind ∷ kinds) (Number x ∷ others) h = absurd h
+AreWords-arguments (TruthsKind ∷ kinds) (Numbers xs ∷ others) h = absurd h
+AreWords-arguments (TruthsKind ∷ kinds) (Truths bs ∷ []) h = AreWords-append (map truth_text bs) [] (AreWords-truths bs) tt
+AreWords-arguments (TruthsKind ∷ kinds) (Truths bs ∷ a ∷ others) h = absurd h
 AreWords-arguments (NumbersKind ∷ kinds) (Numbers xs ∷ []) h = AreWords-append (map signed_decimal xs) [] (AreWords-numbers xs h) tt
 AreWords-arguments (NumbersKind ∷ kinds) (Numbers xs ∷ a ∷ others) h = absurd h
 

@@ -5,28 +5,41 @@ use Rattle.vector_memory.specs.Names.{name_of}
 use Rattle.cvl_calls.specs.declared.fault.ReadFault.{ReadFault}
 use Rattle.cvl_calls.specs.declared.fault.ReadFault.TheVariants.{BadCall, OutOfMemory}
 use Rattle.cvl_calls.specs.declared.word.Word.{Word}
-use Rattle.cvl_calls.specs.declared.word.Word.TheVariants.{SetInts, Get, MapZ2, ScanZ}
+use Rattle.cvl_calls.specs.declared.word.Word.TheVariants.{SetInts, SetBools, Get, Mov, Free, Alo, Len, MapZ2, ScanZ}
 use Rattle.cvl_calls.specs.Numbers.{number_of}
-use Rattle.cvl_calls.specs.Tasks.{Argument, Vector, Numbers, Task}
+use Rattle.cvl_calls.specs.Tasks.{Argument, Vector, Number, Numbers, Truths, Task}
+use Rattle.cvl_calls.specs.TruthValues.{truth_of}
 use Rattle.cvl_calls.specs.Words.{same_text, word_of}
 
 -- what stands at an argument's place
 pub data Kind : Type 0 where
   NameKind : Kind
+  NumberKind : Kind
   -- all words that are left
   NumbersKind : Kind
+  TruthsKind : Kind
 
 -- the arguments that a word takes, from left to right
 abbrev pub kinds_of : Word → List Kind
 kinds_of SetInts = NumbersKind ∷ []
+kinds_of SetBools = TruthsKind ∷ []
 kinds_of Get = NameKind ∷ []
+kinds_of Mov = NameKind ∷ []
+kinds_of Free = NameKind ∷ []
+kinds_of Alo = NumberKind ∷ []
+kinds_of Len = NameKind ∷ []
 kinds_of (MapZ2 op) = NameKind ∷ NameKind ∷ []
 kinds_of (ScanZ op) = NameKind ∷ []
 
 -- whether a name and `=` stand before the word
 abbrev pub is_targeted : Word → Bool
 is_targeted SetInts = true
+is_targeted SetBools = true
 is_targeted Get = false
+is_targeted Mov = true
+is_targeted Free = false
+is_targeted Alo = true
+is_targeted Len = false
 is_targeted (MapZ2 op) = true
 is_targeted (ScanZ op) = true
 
@@ -41,6 +54,12 @@ all_of read (w ∷ ws) = do
   xs ← all_of read ws
   Some (x ∷ xs)
 
+-- the item of a list that has no other
+abbrev pub only : {A : Type 0} → List A → Option A
+only [] = None
+only (x ∷ []) = Some x
+only (x ∷ y ∷ xs) = None
+
 -- the arguments that words spell
 abbrev pub arguments_in : List Kind → List (List ℕ) → Option (List Argument)
 arguments_in [] [] = Some []
@@ -50,9 +69,17 @@ arguments_in (NameKind ∷ kinds) (w ∷ ws) = do
   name ← name_of w
   others ← arguments_in kinds ws
   Some (Vector name ∷ others)
+arguments_in (NumberKind ∷ kinds) [] = None
+arguments_in (NumberKind ∷ kinds) (w ∷ ws) = do
+  number ← number_of w
+  others ← arguments_in kinds ws
+  Some (Number number ∷ others)
 arguments_in (NumbersKind ∷ kinds) ws = do
   numbers ← all_of number_of ws
   Some (Numbers numbers ∷ [])
+arguments_in (TruthsKind ∷ kinds) ws = do
+  truths ← all_of truth_of ws
+  Some (Truths truths ∷ [])
 
 -- the task of a word that stands behind `=`
 unfoldable pub targeted : Name → Word → List (List ℕ) → Option Task

@@ -1,14 +1,16 @@
 -- One step of the machine.
-use Rattle.std.specs.Prelude.{◌≡◌, Option, Some, None, Result, Ok, Err, IsOk}
+use Rattle.std.specs.Prelude.{◌≡◌, List, [], ◌∷◌, Option, Some, None, Result, Ok, Err, IsOk}
 use Rattle.vector_memory.specs.declared.name.Name.{Name}
 use Rattle.vector_memory.specs.declared.memory.StoreFault.{StoreFault}
 use Rattle.vector_memory.specs.declared.memory.StoreFault.TheVariants as refusals
 use Rattle.vector_memory.specs.Contents.{Content}
-use Rattle.vector_memory.specs.States.{State, refusal, put}
+use Rattle.vector_memory.specs.States.{State, refusal, put, without}
 use Rattle.cvl_calls.specs.declared.fault.Fault.{Fault}
 use Rattle.cvl_calls.specs.declared.fault.Fault.TheVariants.{NoRoom, TooManyNames}
-use Rattle.cvl_calls.specs.Tasks.{Task}
-use Rattle.cvl_calls.specs.Outcomes.{Answer, Done, FaultOf, Effect, Stores, Answers, operands_of}
+use Rattle.cvl_calls.specs.declared.word.Word.{Word}
+use Rattle.cvl_calls.specs.declared.word.Word.TheVariants as words
+use Rattle.cvl_calls.specs.Tasks.{Task, reads}
+use Rattle.cvl_calls.specs.Outcomes.{Answer, Done, FaultOf, Effect, Stores, Frees, Answers, operands_of}
 use Rattle.cvl_calls.specs.Work.{work}
 
 -- a memory and a reply
@@ -16,9 +18,18 @@ pub record Stepped : Type 0 where
   pub memory : State
   pub answer : Answer
 
+abbrev pub head_of : List Name → Option Name
+head_of [] = None
+head_of (n ∷ ns) = Some n
+
+-- the name before `=`, or the one that is freed
+abbrev pub target_by : Word → Option Name → List Name → Option Name
+target_by words.Free to names = head_of names
+target_by word to names = to
+
 -- the name that a call writes or frees
 abbrev pub target : Task → Option Name
-target t = t.to
+target t = target_by t.word t.to (reads t)
 
 -- the reply to a store that is refused
 abbrev pub refused : State → Option StoreFault → State → Stepped
@@ -35,6 +46,8 @@ abbrev pub applied : State → Option Name → Effect → Stepped
 applied m to (Answers a) = record { memory = m; answer = a }
 applied m (Some n) (Stores v) = stored m n v
 applied m None (Stores v) = record { memory = m; answer = Done }
+applied m (Some n) Frees = record { memory = without m n; answer = Done }
+applied m None Frees = record { memory = m; answer = Done }
 
 -- a fault is a reply, and changes nothing
 abbrev pub followed : State → Option Name → Result Effect Fault → Stepped

@@ -5,15 +5,18 @@ use Rattle.std.specs.List.{AllByRecursion, flat_map}
 use Rattle.std.specs.Fmt.{signed_decimal}
 use Rattle.vector_memory.specs.declared.name.Name.{Name}
 use Rattle.vector_memory.specs.Names.{name_of}
-use Rattle.cvl_calls.specs.Lines.{Kind, NameKind, NumbersKind, kinds_of, is_targeted, task_in}
+use Rattle.cvl_calls.specs.Lines.{Kind, NameKind, NumberKind, NumbersKind, TruthsKind, kinds_of, is_targeted, task_in}
 use Rattle.cvl_calls.specs.Numbers.{is_in_range}
-use Rattle.cvl_calls.specs.Tasks.{Argument, Vector, Numbers, Task}
+use Rattle.cvl_calls.specs.Tasks.{Argument, Vector, Number, Numbers, Truths, Task}
+use Rattle.cvl_calls.specs.TruthValues.{truth_text}
 use Rattle.cvl_calls.specs.Words.{words_of, word_text}
 
 -- the words of an argument
 abbrev pub argument_words : Argument → List (List ℕ)
 argument_words (Vector n) = n ∷ []
+argument_words (Number x) = signed_decimal x ∷ []
 argument_words (Numbers xs) = map signed_decimal xs
+argument_words (Truths bs) = map truth_text bs
 
 -- a target and `=`
 abbrev pub target_words : Option Name → List (List ℕ)
@@ -41,7 +44,9 @@ IsLawful n = name_of n ≡ Some n
 abbrev pub AreWritable : List Kind → List Argument → Type 0
 AreWritable [] [] = Unit {0}
 AreWritable (NameKind ∷ kinds) (Vector n ∷ others) = IsLawful n × AreWritable kinds others
+AreWritable (NumberKind ∷ kinds) (Number x ∷ others) = IsTrue (is_in_range x) × AreWritable kinds others
 AreWritable (NumbersKind ∷ kinds) (Numbers xs ∷ []) = AllByRecursion (λ x. IsTrue (is_in_range x)) xs
+AreWritable (TruthsKind ∷ kinds) (Truths bs ∷ []) = Unit {0}
 AreWritable _ _ = ⊥
 
 -- a target exactly where the word has one

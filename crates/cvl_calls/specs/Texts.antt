@@ -1,18 +1,24 @@
 -- How values and replies are written.
-use Rattle.std.specs.Prelude.{◌≡◌, ℕ, ℤ, List, ◌∷◌, ◌++◌, codes}
+use Rattle.std.specs.Prelude.{◌≡◌, ℕ, ℤ, Bool, List, ◌∷◌, ◌++◌, codes}
 use Rattle.std.specs.List.{flat_map}
 use Rattle.std.specs.Fmt.{signed_decimal}
-use Rattle.vector_memory.specs.Contents.{Content, Ints}
+use Rattle.vector_memory.specs.Contents.{Content, Ints, Bools}
 use Rattle.cvl_calls.specs.declared.fault.Fault.{Fault}
 use Rattle.cvl_calls.specs.declared.fault.Fault.TheVariants as faults
-use Rattle.cvl_calls.specs.Outcomes.{Answer, Done, VectorOf, FaultOf}
+use Rattle.cvl_calls.specs.Outcomes.{Answer, Done, IntOf, VectorOf, FaultOf}
+use Rattle.cvl_calls.specs.TruthValues.{truth_text}
 
 -- a space and the number
 abbrev pub number_item : ℤ → List ℕ
 number_item x = 32 ∷ signed_decimal x
 
+-- a space and T or F
+abbrev pub truth_item : Bool → List ℕ
+truth_item b = 32 ∷ truth_text b
+
 abbrev pub value_text : Content → List ℕ
 value_text (Ints xs) = 122 ∷ flat_map number_item xs
+value_text (Bools bs) = 98 ∷ flat_map truth_item bs
 
 abbrev pub fault_text : Fault → List ℕ
 fault_text faults.NoVector = codes "fault 1"
@@ -28,6 +34,7 @@ fault_text faults.TooManyNames = codes "fault 10"
 
 abbrev pub answer_text : Answer → List ℕ
 answer_text Done = codes "ok"
+answer_text (IntOf x) = codes "int " ++ signed_decimal x
 answer_text (VectorOf v) = value_text v
 answer_text (FaultOf f) = fault_text f
 

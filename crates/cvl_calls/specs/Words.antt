@@ -3,7 +3,7 @@ use Rattle.std.specs.Prelude.{ℕ, suc, Bool, true, false, ◌==◌, nat_eq, Lis
 use Rattle.std.specs.Borrow.{Bor}
 use Rattle.std.specs.Cmp.Lexicographic.{pointwise}
 use Rattle.cvl_calls.specs.declared.word.Word.{Word}
-use Rattle.cvl_calls.specs.declared.word.Word.TheVariants.{SetInts, Get, MapZ2, ScanZ}
+use Rattle.cvl_calls.specs.declared.word.Word.TheVariants.{SetInts, SetBools, Get, Mov, Free, Alo, Len, MapZ2, ScanZ}
 use Rattle.cvl_calls.specs.declared.word.Z2.{Z2}
 use Rattle.cvl_calls.specs.declared.word.Z2.TheVariants as binary
 use Rattle.cvl_calls.specs.declared.word.ScanZ.{ScanZ as Scan}
@@ -39,14 +39,19 @@ scan_text scans.Add = codes "add"
 -- how a word is written
 abbrev pub word_text : Word → List ℕ
 word_text SetInts = codes "z"
+word_text SetBools = codes "b"
 word_text Get = codes "get"
+word_text Mov = codes "mov_fov"
+word_text Free = codes "fre_fov"
+word_text Alo = codes "alo_foz"
+word_text Len = codes "len_fov"
 word_text (MapZ2 op) = z2_text op ++ codes "_wuz"
 word_text (ScanZ op) = scan_text op ++ codes "_suz"
 
 -- every word
 abbrev pub all_words : List Word
 all_words =
-    SetInts ∷ Get ∷ MapZ2 binary.Add ∷ ScanZ scans.Add ∷ []
+    SetInts ∷ SetBools ∷ Get ∷ Mov ∷ Free ∷ Alo ∷ Len ∷ MapZ2 binary.Add ∷ ScanZ scans.Add ∷ []
 
 -- the word that a text writes
 abbrev pub word_of : List ℕ → Option Word

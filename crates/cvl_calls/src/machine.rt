@@ -1,9 +1,10 @@
-ghost use Rattle.std.specs.Prelude.{◌≡◌, ◌≤◌, None, IfOk, OnErr};
+ghost use Rattle.std.specs.Prelude.{◌≡◌, ◌≤◌, None, IsOk, IfOk, OnErr};
 ghost use Rattle.vector_memory.specs.Contents.{content_of, size_of};
 ghost use Rattle.vector_memory.specs.States.{item_limit, refusal};
 ghost use Rattle.cvl_calls.specs.Tasks.{task_of};
 ghost use Rattle.cvl_calls.specs.Outcomes.{answer_of, effect_of, IsShortEffect};
 ghost use Rattle.cvl_calls.specs.Steps.{Grows, IsFaultless, applied, stepped, stored};
+ghost use Rattle.cvl_calls.specs.Work.{TakesNoMemory};
 
 use crate::call::{Call, target};
 use crate::fault::{Fault, Stop};
@@ -27,8 +28,8 @@ fn store(memory: &mut Memory, to: Name, value: Value) -> Result<Reply, OutOfMemo
     }
 }
 
-/// Stores at the target what a call made of its operands, or hands its reply on. The value is one that `work` made: no
-/// longer than a value may be. A refused store is a fault, and it and a want of memory leave the memory as it was.
+/// Stores at the target what a call made of its operands, takes the target away, or hands the reply on. The value is one
+/// that `work` made: no longer than a value may be. A refused store is a fault, and it and a want of memory leave the memory as it was.
 pub fn apply(memory: &mut Memory, to: Option<Name>, product: Product) -> Result<Reply, OutOfMemory>
     requires { IsShortEffect (effect_of product) }
     ensures ok { IfOk result (λ reply. applied memory.old to (effect_of product)
@@ -42,14 +43,22 @@ pub fn apply(memory: &mut Memory, to: Option<Name>, product: Product) -> Result<
             Some(to) => store(memory, to, value),
             None => Ok(Reply::Done),
         },
+        Product::Free => {
+            if let Some(name) = to {
+                memory.free(&name);
+            }
+            Ok(Reply::Done)
+        }
     }
 }
 
 /// Runs a call on a memory: `work`, and then `apply`. A fault is a reply, and it and a want of memory leave the memory as it was.
+/// `fre_fov` and `len_fov` take no memory, and are always answered.
 pub fn step(alloc: Global, memory: &mut Memory, call: &Call) -> Result<Reply, OutOfMemory>
     ensures ok { IfOk result (λ reply. stepped memory.old (task_of call.now)
         ≡ record { memory = memory.new; answer = answer_of reply }) }
     ensures faultless { OnErr result (IsFaultless memory.old (task_of call.now)) }
+    ensures answered { TakesNoMemory (task_of call.now).word → IsOk result }
     ensures err { OnErr result (memory.new ≡ memory.old) }
 {
     let _room = memory.room();

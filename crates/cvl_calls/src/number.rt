@@ -1,10 +1,12 @@
-//! Numbers from the words that write them.
+//! Numbers from the words that write them, and numbers as they are written.
 
-ghost use Rattle.std.specs.Prelude.{◌≡◌, ◌↔◌, ◌≤◌, ◌<◌, ◌∷◌, length, MatchOption, IsTrue, IsFalse};
+ghost use Rattle.std.specs.Prelude.{◌≡◌, ◌↔◌, ◌≤◌, ◌<◌, ◌+◌, ◌∷◌, ◌++◌, length, vec_len, vec_capacity, MatchOption, IsTrue, IsFalse, OnOk, OnErr, is_ok, if◌then◌else◌};
 ghost use Rattle.std.specs.Char.{digit_value};
-ghost use Rattle.std.specs.Fmt.{decimal};
+ghost use Rattle.std.specs.Fmt.{decimal, signed_decimal};
 ghost use Rattle.std.specs.Str.Parse.{AllDigits, digits_value, starts_with_minus};
 ghost use Rattle.cvl_calls.specs.Numbers.{IsShort, IsNoDecimal, number_of};
+
+use std::alloc::AllocError;
 
 /// How many digits the greatest magnitude has.
 const MOST_DIGITS: usize = 19;
@@ -86,4 +88,15 @@ pub(crate) fn number_of(word: &[u8]) -> Option<i64>
         [b'-', magnitude @ ..] => negative_number(magnitude),
         _ => unsigned_number(word),
     }
+}
+
+/// Appends a number.
+pub(crate) fn append_number(out: &mut Vec<u8>, number: i64) -> Result<(), AllocError>
+    ensures items { out.new.items ≡ (if is_ok result then out.old.items ++ signed_decimal number else out.old.items) }
+    ensures len { OnOk result (vec_len out.new ≡ vec_len out.old + length (signed_decimal number)) }
+    ensures capacity { vec_capacity out.old ≤ vec_capacity out.new }
+    ensures full { OnErr result (vec_capacity out.old < vec_len out.old + length (signed_decimal number)) }
+{
+    let mut buffer = itoa::Buffer::new();
+    out.extend_from_slice(buffer.format(number).as_bytes())
 }

@@ -3,28 +3,34 @@
 ghost use Rattle.std.specs.Prelude.{◌≡◌, [], ◌∷◌, Option, Some, None, is_some};
 ghost use Rattle.std.specs.Option.{option_map};
 ghost use Rattle.cvl_calls.specs.Words.{words_of};
-ghost use Rattle.cvl_calls.specs.Tasks.{Vector, task_of};
-ghost use Rattle.cvl_calls.specs.Numbers.{number_of};
-ghost use Rattle.cvl_calls.specs.Lines.{Reads, NameKind, all_of, arguments_in, targeted, untargeted, behind_target, without_target, task_in};
+ghost use Rattle.cvl_calls.specs.Tasks.{Vector, Number, task_of};
+ghost use Rattle.cvl_calls.specs.Lines.{Reads, NameKind, NumberKind, all_of, only, arguments_in, targeted, untargeted, behind_target, without_target, task_in};
 
 use crate::call::Call;
 use crate::fault::ReadFault;
+use crate::item::Item;
 use crate::number::number_of;
 use crate::text::{count_words, next_word};
 use crate::word::{Word, word_of};
 use std::alloc::Global;
 use vector_memory::Name;
 
+/// One word, and nothing after it.
+fn one_word(text: &[u8]) -> Option<&[u8]>
+    ensures { option_map (λ w. w.now) result ≡ only (words_of text.now) }
+{
+    let (word, rest) = next_word(text)?;
+    match next_word(rest) {
+        None => Some(word),
+        Some(_) => None,
+    }
+}
+
 /// One name, and nothing after it.
 fn one_name(text: &[u8]) -> Option<Name>
     ensures { option_map (λ a. Vector a ∷ []) result ≡ arguments_in (NameKind ∷ []) (words_of text.now) }
 {
-    let (first, rest) = next_word(text)?;
-    let a = Name::read(first)?;
-    match next_word(rest) {
-        None => Some(a),
-        Some(_) => None,
-    }
+    Name::read(one_word(text)?)
 }
 
 /// Two names, and nothing after them.
@@ -38,13 +44,20 @@ fn two_names(text: &[u8]) -> Option<(Name, Name)>
     Some((a, b))
 }
 
-/// Whether every word is a number.
-fn are_numbers(text: &[u8]) -> bool
-    ensures { result ≡ is_some (all_of number_of (words_of text.now)) }
+/// One number, and nothing after it.
+fn one_number(text: &[u8]) -> Option<i64>
+    ensures { option_map (λ n. Number n ∷ []) result ≡ arguments_in (NumberKind ∷ []) (words_of text.now) }
+{
+    number_of(one_word(text)?)
+}
+
+/// Whether every word is an item.
+fn are_items<I: Item>(text: &[u8]) -> bool
+    ensures { result ≡ is_some (all_of I.item_of (words_of text.now)) }
 {
     let mut rest = text;
     while let Some((word, after)) = next_word(rest) {
-        if number_of(word).is_none() {
+        if I::read(word).is_none() {
             return false;
         }
         rest = after;
@@ -52,12 +65,12 @@ fn are_numbers(text: &[u8]) -> bool
     true
 }
 
-/// All words as numbers.
-fn numbers(alloc: Global, text: &[u8]) -> Result<Vec<i64>, ReadFault>
-    ensures { Reads (λ v. v.items) result (all_of number_of (words_of text.now)) }
+/// All words as items.
+fn items<I: Item>(alloc: Global, text: &[u8]) -> Result<Vec<I>, ReadFault>
+    ensures { Reads (λ v. v.items) result (all_of I.item_of (words_of text.now)) }
 {
-    let Ok(mut numbers) = Vec::with_capacity(alloc, count_words(text)) else {
-        return Err(if are_numbers(text) {
+    let Ok(mut items) = Vec::with_capacity(alloc, count_words(text)) else {
+        return Err(if are_items::<I>(text) {
             ReadFault::OutOfMemory
         } else {
             ReadFault::BadCall
@@ -65,13 +78,13 @@ fn numbers(alloc: Global, text: &[u8]) -> Result<Vec<i64>, ReadFault>
     };
     let mut rest = text;
     while let Some((word, after)) = next_word(rest) {
-        let Some(number) = number_of(word) else {
+        let Some(item) = I::read(word) else {
             return Err(ReadFault::BadCall);
         };
-        numbers.push_reserved(number);
+        items.push_reserved(item);
         rest = after;
     }
-    Ok(numbers)
+    Ok(items)
 }
 
 /// The call of a word that stands behind `=`.
@@ -81,8 +94,20 @@ fn targeted(alloc: Global, to: Name, word: Word, text: &[u8]) -> Result<Call, Re
 {
     match word {
         Word::SetInts => {
-            let items = numbers(alloc, text)?;
+            let items = items(alloc, text)?;
             Ok(Call::SetInts { to, items })
+        }
+        Word::SetBools => {
+            let items = items(alloc, text)?;
+            Ok(Call::SetBools { to, items })
+        }
+        Word::Mov => {
+            let a = one_name(text).ok_or(ReadFault::BadCall)?;
+            Ok(Call::Mov { to, a })
+        }
+        Word::Alo => {
+            let n = one_number(text).ok_or(ReadFault::BadCall)?;
+            Ok(Call::Alo { to, n })
         }
         Word::MapZ2(op) => {
             let (a, b) = two_names(text).ok_or(ReadFault::BadCall)?;
@@ -93,6 +118,8 @@ fn targeted(alloc: Global, to: Name, word: Word, text: &[u8]) -> Result<Call, Re
             Ok(Call::ScanOfZ { to, op, a })
         }
         Word::Get => Err(ReadFault::BadCall),
+        Word::Free => Err(ReadFault::BadCall),
+        Word::Len => Err(ReadFault::BadCall),
     }
 }
 
@@ -106,7 +133,18 @@ fn untargeted(word: Word, text: &[u8]) -> Option<Call>
             let a = one_name(text)?;
             Some(Call::Get { a })
         }
+        Word::Free => {
+            let a = one_name(text)?;
+            Some(Call::Free { a })
+        }
+        Word::Len => {
+            let a = one_name(text)?;
+            Some(Call::Len { a })
+        }
         Word::SetInts => None,
+        Word::SetBools => None,
+        Word::Mov => None,
+        Word::Alo => None,
         Word::MapZ2(_) => None,
         Word::ScanZ(_) => None,
     }

@@ -4,8 +4,10 @@ use vector_memory::Value;
 /// The reply to a call.
 #[derive(Debug, Drop)]
 pub enum Reply {
-    /// The target was stored.
+    /// The target was stored, or freed.
     Done,
+    /// A number that was asked for.
+    Int(i64),
     /// A value that was asked for.
     Vector(Value),
     /// The call was not done.

@@ -1,3 +1,5 @@
+mod memory_calls;
+
 use crate::{
     Call, Fault, Product, ReadFault, Reply, ScanZ, Stop, Z2, apply, lines_read_back, next_word,
     reads, scans_reduce_prefixes, step, target, work, write_value,
@@ -187,7 +189,7 @@ fn refuses_bad_lines(rt: HostRuntime) {
         b"=",
         b"a",
         b"a =",
-        b"a = b",
+        b"a = c",
         b"a = get a",
         b"get",
         b"get a b",

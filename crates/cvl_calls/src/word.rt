@@ -18,15 +18,25 @@ pub enum ScanZ {
 #[derive(Clone, Copy, Debug, PartialEq, Eq)]
 pub enum Word {
     SetInts,
+    SetBools,
     Get,
+    Mov,
+    Free,
+    Alo,
+    Len,
     MapZ2(Z2),
     ScanZ(ScanZ),
 }
 
 /// Each word as it is written.
-static WORDS: [(&[u8], Word); 4] = [
+static WORDS: [(&[u8], Word); 9] = [
     (b"z", Word::SetInts),
+    (b"b", Word::SetBools),
     (b"get", Word::Get),
+    (b"mov_fov", Word::Mov),
+    (b"fre_fov", Word::Free),
+    (b"alo_foz", Word::Alo),
+    (b"len_fov", Word::Len),
     (b"add_wuz", Word::MapZ2(Z2::Add)),
     (b"add_suz", Word::ScanZ(ScanZ::Add)),
 ];

@@ -1,45 +1,25 @@
 //! Replies as text.
 
-ghost use Rattle.std.specs.Prelude.{◌≡◌, ◌++◌, ◌+◌, ◌<◌, ◌≤◌, vec_len, vec_capacity, length, OnOk, OnErr, is_ok, if◌then◌else◌};
+ghost use Rattle.std.specs.Prelude.{◌≡◌, ◌++◌, ◌+◌, ◌<◌, vec_len, vec_capacity, length, OnOk, OnErr};
 ghost use Rattle.std.specs.List.{flat_map};
-ghost use Rattle.std.specs.Fmt.{signed_decimal};
 ghost use Rattle.vector_memory.specs.Contents.{content_of};
-ghost use Rattle.cvl_calls.specs.Outcomes.{answer_of};
-ghost use Rattle.cvl_calls.specs.Texts.{number_item, value_text, fault_text, answer_text, Begins};
+ghost use Rattle.cvl_calls.specs.Outcomes.{IntOf, answer_of};
+ghost use Rattle.cvl_calls.specs.Texts.{value_text, fault_text, answer_text, Begins};
 
 use crate::fault::Fault;
+use crate::item::Item;
+use crate::number::append_number;
 use crate::reply::Reply;
 use std::alloc::AllocError;
 use vector_memory::{OutOfMemory, Value};
 
-fn append_number(out: &mut Vec<u8>, number: i64) -> Result<(), AllocError>
-    ensures items { out.new.items ≡ (if is_ok result then out.old.items ++ signed_decimal number else out.old.items) }
-    ensures len { OnOk result (vec_len out.new ≡ vec_len out.old + length (signed_decimal number)) }
-    ensures capacity { vec_capacity out.old ≤ vec_capacity out.new }
-    ensures full { OnErr result (vec_capacity out.old < vec_len out.old + length (signed_decimal number)) }
-{
-    let mut buffer = itoa::Buffer::new();
-    out.extend_from_slice(buffer.format(number).as_bytes())
-}
-
-fn append_item(out: &mut Vec<u8>, item: &i64) -> Result<(), AllocError>
-    ensures ok { OnOk result (out.new.items ≡ out.old.items ++ number_item item.now) }
+fn append_items<I: Item>(out: &mut Vec<u8>, items: &[I]) -> Result<(), AllocError>
+    ensures ok { OnOk result (out.new.items ≡ out.old.items ++ flat_map I.item_text items.now) }
     ensures err { OnErr result (Begins out.old.items out.new.items) }
-    ensures len { OnOk result (vec_len out.new ≡ vec_len out.old + length (number_item item.now)) }
-    ensures capacity { vec_capacity out.old ≤ vec_capacity out.new }
-    ensures full { OnErr result (vec_capacity out.old < vec_len out.old + length (number_item item.now)) }
-{
-    out.push(b' ')?;
-    append_number(out, *item)
-}
-
-fn append_ints(out: &mut Vec<u8>, items: &[i64]) -> Result<(), AllocError>
-    ensures ok { OnOk result (out.new.items ≡ out.old.items ++ flat_map number_item items.now) }
-    ensures err { OnErr result (Begins out.old.items out.new.items) }
-    ensures full { OnErr result (vec_capacity out.old < vec_len out.old + length (flat_map number_item items.now)) }
+    ensures full { OnErr result (vec_capacity out.old < vec_len out.old + length (flat_map I.item_text items.now)) }
 {
     for item in items {
-        append_item(out, item)?;
+        item.append(out)?;
     }
     Ok(())
 }
@@ -52,7 +32,11 @@ fn append_value(out: &mut Vec<u8>, value: &Value) -> Result<(), AllocError>
     match value {
         Value::Ints(items) => {
             out.push(b'z')?;
-            append_ints(out, items)
+            append_items(out, items)
+        }
+        Value::Bools(items) => {
+            out.push(b'b')?;
+            append_items(out, items)
         }
     }
 }
@@ -89,18 +73,40 @@ pub fn write_value(value: &Value, out: &mut Vec<u8>) -> Result<(), OutOfMemory>
     Ok(())
 }
 
+fn append_int(out: &mut Vec<u8>, number: i64) -> Result<(), AllocError>
+    ensures ok { OnOk result (out.new.items ≡ out.old.items ++ answer_text (IntOf number)) }
+    ensures err { OnErr result (Begins out.old.items out.new.items) }
+    ensures full { OnErr result (vec_capacity out.old < vec_len out.old + length (answer_text (IntOf number))) }
+{
+    out.extend_from_slice(b"int ")?;
+    append_number(out, number)
+}
+
+fn append_reply(out: &mut Vec<u8>, reply: &Reply) -> Result<(), AllocError>
+    ensures ok { OnOk result (out.new.items ≡ out.old.items ++ answer_text (answer_of reply.now)) }
+    ensures err { OnErr result (Begins out.old.items out.new.items) }
+    ensures full { OnErr result (vec_capacity out.old < vec_len out.old + length (answer_text (answer_of reply.now))) }
+{
+    match reply {
+        Reply::Done => out.extend_from_slice(b"ok"),
+        Reply::Int(number) => append_int(out, *number),
+        Reply::Vector(value) => append_value(out, value),
+        Reply::Fault(fault) => out.extend_from_slice(fault_text(*fault)),
+    }
+}
+
 impl Reply {
-    /// Appends the text of the reply: `ok`, a value's text, or `fault n` with n from 1 to 10. On an error nothing is written;
+    /// Appends the text of the reply: `ok`, `int` and the number, a value's text, or `fault n` with n from 1 to 10. On an error nothing is written;
     /// there is none where the vector has room for the text.
     pub fn write(&self, out: &mut Vec<u8>) -> Result<(), OutOfMemory>
         ensures ok { OnOk result (out.new.items ≡ out.old.items ++ answer_text (answer_of self.now)) }
         ensures full { OnErr result (vec_capacity out.old < vec_len out.old + length (answer_text (answer_of self.now))) }
         ensures err { OnErr result (out.new.items ≡ out.old.items) }
     {
-        match self {
-            Reply::Done => out.extend_from_slice(b"ok")?,
-            Reply::Vector(value) => write_value(value, out)?,
-            Reply::Fault(fault) => out.extend_from_slice(fault_text(*fault))?,
+        let len = out.len();
+        if append_reply(out, self).is_err() {
+            out.truncate(len);
+            return Err(OutOfMemory);
         }
         Ok(())
     }

@@ -1,4 +1,4 @@
-ghost use Rattle.std.specs.Prelude.{◌≡◌, ◌==◌, ℕ, ◌≤◌, None, Some, length, position, IfOk, IfErr, OnOk, OnErr};
+ghost use Rattle.std.specs.Prelude.{◌≡◌, ◌==◌, ℕ, ◌≤◌, None, Some, length, position, IfOk, IfErr, OnOk, OnErr, is_some};
 ghost use Rattle.std.specs.Map.Iter.{ShowsInOrder, deref_pair};
 ghost use Rattle.std.specs.Option.{option_map, option_copied};
 ghost use Rattle.std.specs.Map.{keys_of};
@@ -70,7 +70,7 @@ impl Model for Memory {
 }
 
 impl Memory {
-    ghost use Rattle.vector_memory.specs.States.{State, IsLawful, IsLawfulRoom, IsJudged, empty, value_at, cells_of, cells_after, refusal, put, contents, item_limit};
+    ghost use Rattle.vector_memory.specs.States.{State, IsLawful, IsLawfulRoom, IsJudged, empty, value_at, cells_of, cells_after, refusal, put, without, contents, item_limit};
 
     /// A memory without values, for values of up to `room` items together: from 1 to `ROOM_LIMIT`.
     pub fn new(alloc: Global, room: u64) -> Result<Memory, OutOfMemory>
@@ -180,6 +180,21 @@ impl Memory {
             Err(OutOfMemory) => return Err(StoreFault::OutOfMemory),
         }
         Ok(())
+    }
+
+    /// Takes a name and its value away, and answers whether the name was there. The names behind it close up and keep
+    /// their order, which costs a step for each of them. Takes no memory.
+    #[tactic(auto, using(crate::proofs::StateLemmas::old_size_le_cells))]
+    pub fn free(&mut self, name: &Name) -> bool
+        ensures was { result ≡ is_some (value_at self.old name.now) }
+        ensures taken { self.new ≡ without self.old name.now }
+    {
+        let Some((index, value)) = self.find(name) else {
+            return false;
+        };
+        self.cells -= value.size();
+        self.values.shift_remove_index(index);
+        true
     }
 }
 

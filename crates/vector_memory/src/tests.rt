@@ -1,7 +1,4 @@
 //! Each public call once, with ample memory.
-ghost use Rattle.std.specs.Prelude.{◌≡◌, IfOk};
-ghost use Rattle.vector_memory.specs.Contents.{Ints, content_of};
-
 use crate::{ITEM_LIMIT, Memory, NAME_LIMIT, Name, StoreFault, Value};
 use std::alloc::Global;
 use std::process::Abort;
@@ -11,23 +8,36 @@ fn name(text: &[u8]) -> Result<Name, Fail> {
     Ok(Name::read(text).ok_or("no name")?)
 }
 
-fn ints(alloc: Global, items: &[i64]) -> Result<Value, Fail>
-    ensures { IfOk result (λ value. content_of value ≡ Ints items.now) }
-{
+fn ints(alloc: Global, items: &[i64]) -> Result<Value, Fail> {
     Ok(Value::Ints(Vec::from_slice(alloc, items)?))
 }
 
-/// What a store of the integers under the name answers.
+fn bools(alloc: Global, items: &[bool]) -> Result<Value, Fail> {
+    Ok(Value::Bools(Vec::from_slice(alloc, items)?))
+}
+
+/// What a store of the value under the name answers.
 fn stored(
     rt: &impl Abort,
-    alloc: Global,
     memory: &mut Memory,
     text: &[u8],
-    items: &[i64],
+    value: Value,
 ) -> Result<Option<StoreFault>, Fail> {
-    assert!(rt; items.len() <= ITEM_LIMIT);
-    let value = ints(alloc, items)?;
+    assert!(rt; value.size() <= ITEM_LIMIT);
     Ok(memory.store(name(text)?, value).err())
+}
+
+/// Compares the names and values of a memory with these, one after the other and each by its look-up.
+fn expect_entries(rt: &impl Abort, memory: &Memory, wanted: &[(&[u8], Value)]) -> Result<(), Fail> {
+    assert!(rt; memory.len() == wanted.len() && memory.iter().count() == wanted.len());
+    for ((found, value), (text, content)) in memory.iter().zip(wanted) {
+        assert!(rt; *found == name(text)? && value == content, "{text:?}");
+        assert!(rt;
+            memory.get(found) == Some(content),
+            "the look-up of {text:?}"
+        );
+    }
+    Ok(())
 }
 
 #[test]
@@ -81,6 +91,17 @@ fn copies_a_value(rt: HostRuntime) -> Result<(), Fail> {
 }
 
 #[test]
+fn copies_truth_values(rt: HostRuntime) -> Result<(), Fail> {
+    let value = bools(rt.alloc(), &[true, false, false])?;
+    let copy = value.try_copy()?;
+    assert_eq!(rt; copy.size(), 3);
+    assert!(rt; copy == bools(rt.alloc(), &[true, false, false])?);
+    assert!(rt; copy != bools(rt.alloc(), &[true, false, true])?);
+    assert!(rt; bools(rt.alloc(), &[])? != ints(rt.alloc(), &[])?);
+    Ok(())
+}
+
+#[test]
 fn counts_the_room_without_the_old_value(rt: HostRuntime) -> Result<(), Fail> {
     let alloc = rt.alloc();
     let mut memory = Memory::new(alloc, 4)?;
@@ -96,7 +117,7 @@ fn counts_the_room_without_the_old_value(rt: HostRuntime) -> Result<(), Fail> {
         (b"d", &[], None),
     ] {
         assert_eq!(rt;
-            stored(&rt, rt.alloc(), &mut memory, text, items)?,
+            stored(&rt, &mut memory, text, ints(rt.alloc(), items)?)?,
             wanted,
             "{text:?} = {items:?}"
         );
@@ -115,35 +136,95 @@ fn keeps_the_order_of_creation(rt: HostRuntime) -> Result<(), Fail> {
         (b"a", &[]),
         (b"b", &[4, 5, 6]),
     ] {
-        assert_eq!(rt; stored(&rt, rt.alloc(), &mut memory, text, items)?, None);
+        assert_eq!(rt;
+            stored(&rt, &mut memory, text, ints(rt.alloc(), items)?)?,
+            None
+        );
     }
     let wanted = [
-        (b"b".as_slice(), [4, 5, 6].as_slice()),
-        (b"c", &[3]),
-        (b"a", &[]),
+        (b"b".as_slice(), ints(rt.alloc(), &[4, 5, 6])?),
+        (b"c", ints(rt.alloc(), &[3])?),
+        (b"a", ints(rt.alloc(), &[])?),
     ];
-    assert_eq!(rt; memory.iter().count(), wanted.len());
-    for ((found, value), (text, items)) in memory.iter().zip(wanted) {
-        assert!(rt;
-            *found == name(text)? && *value == ints(rt.alloc(), items)?,
-            "{text:?}"
+    expect_entries(&rt, &memory, &wanted)
+}
+
+#[test]
+fn replaces_a_value_by_one_of_another_type(rt: HostRuntime) -> Result<(), Fail> {
+    let alloc = rt.alloc();
+    let mut memory = Memory::new(alloc, 4)?;
+    for (text, value) in [
+        (b"p".as_slice(), bools(alloc, &[true, false])?),
+        (b"q", ints(alloc, &[5])?),
+        (b"p", ints(alloc, &[1, 2, 3])?),
+        (b"q", bools(alloc, &[false])?),
+    ] {
+        assert_eq!(rt; stored(&rt, &mut memory, text, value)?, None, "{text:?}");
+    }
+    let too_long = bools(alloc, &[true, true])?;
+    assert_eq!(rt;
+        stored(&rt, &mut memory, b"q", too_long)?,
+        Some(StoreFault::NoRoom)
+    );
+    assert_eq!(rt; memory.cells(), 4);
+    let wanted = [
+        (b"p".as_slice(), ints(alloc, &[1, 2, 3])?),
+        (b"q", bools(alloc, &[false])?),
+    ];
+    expect_entries(&rt, &memory, &wanted)
+}
+
+#[test]
+fn frees_a_name_and_closes_up(rt: HostRuntime) -> Result<(), Fail> {
+    let alloc = rt.alloc();
+    let mut memory = Memory::new(alloc, 6)?;
+    for (text, value) in [
+        (b"a".as_slice(), ints(alloc, &[1])?),
+        (b"b", bools(alloc, &[true, false])?),
+        (b"c", ints(alloc, &[3, 4, 5])?),
+        (b"d", bools(alloc, &[])?),
+    ] {
+        assert_eq!(rt; stored(&rt, &mut memory, text, value)?, None, "{text:?}");
+    }
+    for (text, was) in [
+        (b"b".as_slice(), true),
+        (b"b", false),
+        (b"e", false),
+        (b"d", true),
+    ] {
+        assert_eq!(rt; memory.free(&name(text)?), was, "{text:?}");
+    }
+    assert!(rt; memory.len() == 2 && memory.cells() == 4);
+    assert!(rt; memory.get(&name(b"b")?).is_none());
+    let again = bools(alloc, &[false])?;
+    assert_eq!(rt; stored(&rt, &mut memory, b"b", again)?, None);
+    assert_eq!(rt; memory.cells(), 5);
+    let wanted = [
+        (b"a".as_slice(), ints(alloc, &[1])?),
+        (b"c", ints(alloc, &[3, 4, 5])?),
+        (b"b", bools(alloc, &[false])?),
+    ];
+    expect_entries(&rt, &memory, &wanted)
+}
+
+/// Stores one integer under each of the names n0, n1 and so on, as many as there may be.
+fn fill(rt: &impl Abort, alloc: Global, memory: &mut Memory) -> Result<(), Fail> {
+    for number in 0..NAME_LIMIT {
+        let text = format!(in alloc; "n{number}")?;
+        assert_eq!(rt;
+            stored(rt, memory, text.as_bytes(), ints(alloc, &[1])?)?,
+            None,
+            "{number}"
         );
-        assert!(rt; memory.get(found) == Some(value), "the look-up of {text:?}");
     }
     Ok(())
 }
 
 #[test]
 fn takes_so_many_names_and_no_more(rt: HostRuntime) -> Result<(), Fail> {
-    let mut memory = Memory::new(rt.alloc(), NAME_LIMIT as u64)?;
-    for number in 0..NAME_LIMIT {
-        let text = format!(in rt.alloc(); "n{number}")?;
-        assert_eq!(rt;
-            stored(&rt, rt.alloc(), &mut memory, text.as_bytes(), &[1])?,
-            None,
-            "{number}"
-        );
-    }
+    let alloc = rt.alloc();
+    let mut memory = Memory::new(alloc, NAME_LIMIT as u64)?;
+    fill(&rt, alloc, &mut memory)?;
     for (text, items, wanted) in [
         (b"m".as_slice(), [1].as_slice(), Some(StoreFault::NoRoom)),
         (b"m", &[], Some(StoreFault::TooManyNames)),
@@ -151,12 +232,20 @@ fn takes_so_many_names_and_no_more(rt: HostRuntime) -> Result<(), Fail> {
         (b"m", &[1], Some(StoreFault::TooManyNames)),
     ] {
         assert_eq!(rt;
-            stored(&rt, rt.alloc(), &mut memory, text, items)?,
+            stored(&rt, &mut memory, text, ints(alloc, items)?)?,
             wanted,
             "{text:?} = {items:?}"
         );
     }
-    assert_eq!(rt; memory.len(), NAME_LIMIT);
-    assert_eq!(rt; memory.cells(), NAME_LIMIT - 1);
+    assert!(rt; memory.len() == NAME_LIMIT && memory.cells() == NAME_LIMIT - 1);
+    assert!(rt; memory.free(&name(b"n0")?));
+    assert_eq!(rt; stored(&rt, &mut memory, b"m", ints(alloc, &[1])?)?, None);
+    assert!(rt; memory.len() == NAME_LIMIT && memory.cells() == NAME_LIMIT);
+    for ((found, _), number) in memory.iter().zip(1..NAME_LIMIT) {
+        let text = format!(in alloc; "n{number}")?;
+        assert!(rt; *found == name(text.as_bytes())?, "{number}");
+    }
+    let last = memory.iter().last().ok_or("no last")?;
+    assert!(rt; *last.0 == name(b"m")?);
     Ok(())
 }

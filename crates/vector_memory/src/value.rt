@@ -8,6 +8,8 @@ use segment_desc::OutOfMemory;
 pub enum Value {
     /// Integers of 64 bits, with a sign.
     Ints(Vec<i64>),
+    /// Truth values.
+    Bools(Vec<bool>),
 }
 
 impl Value {
@@ -17,6 +19,7 @@ impl Value {
     {
         match self {
             Value::Ints(items) => items.len(),
+            Value::Bools(items) => items.len(),
         }
     }
 
@@ -26,6 +29,7 @@ impl Value {
     {
         Ok(match self {
             Value::Ints(items) => Value::Ints(items.clone()?),
+            Value::Bools(items) => Value::Bools(items.clone()?),
         })
     }
 }

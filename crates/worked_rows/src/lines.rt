@@ -5,7 +5,7 @@ use std::test::Fail;
 
 #[test]
 fn bad_lines(rt: HostRuntime) -> Result<(), Fail> {
-    let bad: [&[u8]; 24] = [
+    let bad: [&[u8]; 32] = [
         b"0: a =",
         b"0: a = z 1 -",
         b"0: a = z 9223372036854775808",
@@ -25,8 +25,16 @@ fn bad_lines(rt: HostRuntime) -> Result<(), Fail> {
         b"0: add_wuz a a",
         b"0: a = add_wuz a",
         b"0: a = add_suz a a",
-        b"0: a = b T",
-        b"0: len_fov a",
+        b"0: a = b t",
+        b"0: a = b T 1",
+        b"0: a = z T",
+        b"0: a = len_fov a",
+        b"0: fre_fov",
+        b"0: a = fre_fov a",
+        b"0: a = alo_foz",
+        b"0: a = alo_foz b",
+        b"0: mov_fov a",
+        b"0: add_ruz a",
         b"0: A = z 1",
         b"0: abcdefghijklmnopq = z 1",
         b"cvl 2",

@@ -59,9 +59,45 @@ fn stops_at_a_bad_line(rt: HostRuntime) -> Result<(), Fail> {
     Ok(())
 }
 
-/// Room 4,096 is full with as many names: room is judged before names.
 #[test]
-fn judges_room_before_names(rt: HostRuntime) -> Result<(), Fail> {
+fn judges_names_from_left_to_right(rt: HostRuntime) -> Result<(), Fail> {
+    let script = b"0: f = b T\n0: c = add_wuz x f\n0: c = add_wuz f x\n";
+    assert!(rt; answers(&rt, &["serial"], script, b"0 ok\n0 fault 1\n0 fault 2\n", 0)?);
+    Ok(())
+}
+
+#[test]
+fn allots_up_to_the_limit(rt: HostRuntime) -> Result<(), Fail> {
+    let script = b"0: a = alo_foz 1048577\n0: a = alo_foz -1\n0: a = alo_foz 1048576\n0: len_fov a\n";
+    let text = b"0 fault 8\n0 fault 3\n0 ok\n0 int 1048576\n";
+    assert!(rt; answers(&rt, &["serial"], script, text, 0)?);
+    Ok(())
+}
+
+#[test]
+fn shares_one_memory_between_callers(rt: HostRuntime) -> Result<(), Fail> {
+    let script = b"3: a = b T F\n1: a = z 4\n3: get a\n1: fre_fov a\n1: fre_fov a\n";
+    let text = b"3 ok\n1 ok\n3 z 4\n1 ok\n1 fault 1\n";
+    assert!(rt; answers(&rt, &["serial"], script, text, 0)?);
+    Ok(())
+}
+
+#[test]
+fn moves_and_measures_values(rt: HostRuntime) -> Result<(), Fail> {
+    let script = b"0: a = z 3 4\n0: f = b T F T\n0: d = mov_fov f\n0: get d\n0: len_fov f\n0: len_fov x\n\
+        0: a = mov_fov f\n0: s = add_suz a\n";
+    let text = b"0 ok\n0 ok\n0 ok\n0 b T F T\n0 int 3\n0 fault 1\n0 ok\n0 fault 2\n";
+    assert!(rt; answers(&rt, &["serial"], script, text, 0)?);
+    let script = b"0: a = z 3 4\n0: c = mov_fov a\n0: get a\n0: get c\n0: e = b\n0: get e\n0: len_fov e\n\
+        0: a = mov_fov a\n0: len_fov a\n0: n = alo_foz 3\n0: get n\n";
+    let text = b"0 ok\n0 ok\n0 z 3 4\n0 z 3 4\n0 ok\n0 b\n0 int 0\n0 ok\n0 int 2\n0 ok\n0 z 0 0 0\n";
+    assert!(rt; answers(&rt, &["serial"], script, text, 0)?);
+    Ok(())
+}
+
+/// Room 4,096 is full with as many names: room is judged before names, and a name that is freed makes room for another.
+#[test]
+fn frees_a_name_among_many(rt: HostRuntime) -> Result<(), Fail> {
     let mut script = Vec::new(rt.alloc());
     let mut text = Vec::new(rt.alloc());
     for number in 0..4096u64 {
@@ -71,6 +107,8 @@ fn judges_room_before_names(rt: HostRuntime) -> Result<(), Fail> {
     }
     script.extend_from_slice(b"0: m = z 1\n0: m = z\n0: n0 = z\n0: m = z 1\n")?;
     text.extend_from_slice(b"0 fault 9\n0 fault 10\n0 ok\n0 fault 10\n")?;
+    script.extend_from_slice(b"0: fre_fov n0\n0: m = z 1\n0: get n0\n0: get m\n")?;
+    text.extend_from_slice(b"0 ok\n0 ok\n0 fault 1\n0 z 1\n")?;
     assert!(rt; answers(&rt, &["serial", "4096"], &script, &text, 0)?);
     Ok(())
 }
