@@ -68,7 +68,8 @@ fn judges_names_from_left_to_right(rt: HostRuntime) -> Result<(), Fail> {
 
 #[test]
 fn allots_up_to_the_limit(rt: HostRuntime) -> Result<(), Fail> {
-    let script = b"0: a = alo_foz 1048577\n0: a = alo_foz -1\n0: a = alo_foz 1048576\n0: len_fov a\n";
+    let script =
+        b"0: a = alo_foz 1048577\n0: a = alo_foz -1\n0: a = alo_foz 1048576\n0: len_fov a\n";
     let text = b"0 fault 8\n0 fault 3\n0 ok\n0 int 1048576\n";
     assert!(rt; answers(&rt, &["serial"], script, text, 0)?);
     Ok(())
@@ -84,13 +85,16 @@ fn shares_one_memory_between_callers(rt: HostRuntime) -> Result<(), Fail> {
 
 #[test]
 fn moves_and_measures_values(rt: HostRuntime) -> Result<(), Fail> {
-    let script = b"0: a = z 3 4\n0: f = b T F T\n0: d = mov_fov f\n0: get d\n0: len_fov f\n0: len_fov x\n\
+    let script =
+        b"0: a = z 3 4\n0: f = b T F T\n0: d = mov_fov f\n0: get d\n0: len_fov f\n0: len_fov x\n\
         0: a = mov_fov f\n0: s = add_suz a\n";
     let text = b"0 ok\n0 ok\n0 ok\n0 b T F T\n0 int 3\n0 fault 1\n0 ok\n0 fault 2\n";
     assert!(rt; answers(&rt, &["serial"], script, text, 0)?);
-    let script = b"0: a = z 3 4\n0: c = mov_fov a\n0: get a\n0: get c\n0: e = b\n0: get e\n0: len_fov e\n\
+    let script =
+        b"0: a = z 3 4\n0: c = mov_fov a\n0: get a\n0: get c\n0: e = b\n0: get e\n0: len_fov e\n\
         0: a = mov_fov a\n0: len_fov a\n0: n = alo_foz 3\n0: get n\n";
-    let text = b"0 ok\n0 ok\n0 z 3 4\n0 z 3 4\n0 ok\n0 b\n0 int 0\n0 ok\n0 int 2\n0 ok\n0 z 0 0 0\n";
+    let text =
+        b"0 ok\n0 ok\n0 z 3 4\n0 z 3 4\n0 ok\n0 b\n0 int 0\n0 ok\n0 int 2\n0 ok\n0 z 0 0 0\n";
     assert!(rt; answers(&rt, &["serial"], script, text, 0)?);
     Ok(())
 }
