@@ -2,6 +2,11 @@
 //! Computing, 1990). It defines the error that every crate above shares, the want of memory.
 #![tactic(auto)]
 
+pub mod laws;
 mod memory;
+mod segments;
+#[cfg(test)]
+mod tests;
 
 pub use memory::OutOfMemory;
+pub use segments::{LIMIT, SegFault, Segd};

@@ -1,0 +1,61 @@
+//! What the kernels run over.
+
+use rand_core::{Rng, SeedableRng};
+use rand_xoshiro::SplitMix64;
+use segment_desc::Segd;
+use std::alloc::{AllocError, Global};
+
+/// Random numbers, the same in each run, and lists of segments that cut as many items.
+#[derive(Drop)]
+pub struct Inputs {
+    pub left: Vec<i64>,
+    pub right: Vec<i64>,
+    /// One segment of all items.
+    pub whole: Segd,
+    /// Segments of 1 to 100 items.
+    pub mixed: Segd,
+    /// Segments of one item.
+    pub single: Segd,
+}
+
+fn numbers(alloc: Global, random: &mut SplitMix64, size: u32) -> Result<Vec<i64>, AllocError> {
+    let mut numbers = Vec::with_capacity(alloc, size as usize)?;
+    for _ in 0..size {
+        numbers.push(random.next_u64().cast_signed())?;
+    }
+    Ok(numbers)
+}
+
+/// Segments of at most `longest` items, of random lengths from 1 on, that cut `size` items.
+fn segments(
+    alloc: Global,
+    random: &mut SplitMix64,
+    size: u32,
+    longest: u64,
+) -> Result<Segd, AllocError> {
+    let mut lengths = Vec::new(alloc);
+    let mut left = u64::from(size);
+    for _segment in 0..size {
+        if left == 0 {
+            break;
+        }
+        let length = left.min(1 + random.next_u64() % longest.max(1));
+        lengths.push(length.cast_signed())?;
+        left = left.saturating_sub(length);
+    }
+    Segd::from_lengths(alloc, &lengths).map_err(|_fault| AllocError)
+}
+
+impl Inputs {
+    /// The inputs of `size` items.
+    pub fn new(alloc: Global, size: u32) -> Result<Inputs, AllocError> {
+        let mut random = SplitMix64::seed_from_u64(u64::from(size));
+        Ok(Inputs {
+            left: numbers(alloc, &mut random, size)?,
+            right: numbers(alloc, &mut random, size)?,
+            whole: Segd::from_lengths(alloc, &[i64::from(size)]).map_err(|_fault| AllocError)?,
+            mixed: segments(alloc, &mut random, size, 100)?,
+            single: segments(alloc, &mut random, size, 1)?,
+        })
+    }
+}

@@ -1,0 +1,54 @@
+//! The benchmark program. `bench kernels` times the kernels, and prints a line for each row:
+//! `kernels TAB row TAB cvl TAB nanoseconds an item`, where a row is a kernel and how many items it runs over.
+#![tactic(auto)]
+
+mod case;
+mod inputs;
+mod timing;
+
+use case::{CASES, Case};
+use inputs::Inputs;
+use std::alloc::Global;
+use std::process::ExitCode;
+use std::rt::Clock;
+use std::thread::Threads;
+use std::{env, io};
+
+const USAGE: &str = "usage: bench kernels";
+
+/// How many items the kernels run over.
+const SIZES: [u32; 4] = [1_000, 32_000, 1_000_000, 16_000_000];
+
+/// Times each kernel over each number of items.
+fn kernels<R: Alloc<A = Global> + Clock + Print + Threads + Sync>(rt: &R) -> io::Result<()> {
+    for size in SIZES {
+        let inputs = Inputs::new(rt.alloc(), size)?;
+        for case in CASES {
+            let nanoseconds = timing::least(rt, case, &inputs)?;
+            let item = nanoseconds / f64::from(size);
+            let name = case.name();
+            println!(rt; "kernels\t{name}/{size}\tcvl\t{item:.5}")?;
+        }
+    }
+    Ok(())
+}
+
+/// Whether the one argument asks for the kernels.
+fn asks_for_kernels(rt: &HostRuntime) -> io::Result<bool> {
+    let mut words = env::args(rt)?;
+    words.next();
+    let asked = match words.next() {
+        Some(word) => word.as_str() == "kernels",
+        None => false,
+    };
+    Ok(asked && words.next().is_none())
+}
+
+fn main(rt: HostRuntime) -> io::Result<ExitCode> {
+    if !asks_for_kernels(&rt)? {
+        println!(rt; "{USAGE}")?;
+        return Ok(ExitCode::SUCCESS);
+    }
+    kernels(&rt)?;
+    Ok(ExitCode::SUCCESS)
+}

@@ -1,0 +1,7 @@
+pub mod Chosen
+pub mod CutLists
+pub mod Mapped
+pub mod NextSegment
+pub mod Paired
+pub mod Scanned
+pub mod Tested

@@ -1,0 +1,51 @@
+-- Lists that are paired place by place, one more place at a time: `distributed_more`, `segmented_index_more`, and
+-- `indexed_push` (one more item of a segment).
+use Rattle.std.proofs.Common.{◌≡◌, ℕ, ◌+◌, ◌<◌, ◌≤◌, List, [], ◌∷◌, ◌++◌, length, take, replicate, ℤ, pos, refl, ap, ◌∙◌, get_or, arith, zero-add}
+use Rattle.std.specs.List.{zip, flat_map}
+use Rattle.std.proofs.lemmas.List.{take_more, take_all, append-nil}
+use Rattle.std.proofs.lemmas.List.Concat.{flat_map-append}
+use Rattle.std.proofs.lemmas.List.FromFn.{map-range_with_len_more}
+use Rattle.std.proofs.lemmas.Slice.Zip.{length-zip, get_or-zip}
+use Rattle.scan_kernels.specs.Distributed.{distributed}
+use Rattle.scan_kernels.specs.Indexed.{item_at, indexed, segmented_index}
+
+flat_map-take_more : {X Y : Type 0} (f : X → List Y) (xs : List X) (i : ℕ) (d : X) → i < length xs → flat_map f (take (i + 1) xs) ≡ flat_map f (take i xs) ++ f (get_or xs i d)
+flat_map-take_more f xs i d h =
+    ap (flat_map f) (take_more xs i d h) ∙ flat_map-append f (take i xs) (get_or xs i d ∷ []) ∙ ap (λ l. flat_map f (take i xs) ++ l) (append-nil (f (get_or xs i d)))
+
+-- the value of one more segment
+pub distributed_more : {X : Type 0} (ls : List ℕ) (values : List X) (i : ℕ) (d : X) → i < length ls → length ls ≡ length values
+    → flat_map (λ p. replicate p.0 p.1) (take (i + 1) (zip ls values)) ≡ flat_map (λ p. replicate p.0 p.1) (take i (zip ls values)) ++ replicate (get_or ls i 0) (get_or values i d)
+distributed_more ls values i d h same =
+    let long = length-zip ls values in
+    flat_map-take_more (λ p. replicate p.0 p.1) (zip ls values) i (0, d) (omega arith)
+    ∙ ap (λ p. flat_map (λ p. replicate p.0 p.1) (take i (zip ls values)) ++ replicate p.0 p.1) (get_or-zip ls values i (0, d) h (omega arith))
+
+pub distributed_all : {X : Type 0} (ls : List ℕ) (values : List X) (i : ℕ) → length ls ≤ i → flat_map (λ p. replicate p.0 p.1) (take i (zip ls values)) ≡ distributed ls values
+distributed_all ls values i h = let long = length-zip ls values in ap (flat_map (λ p. replicate p.0 p.1)) (take_all i (zip ls values) (omega arith))
+
+-- the items of one more segment
+pub segmented_index_more : (ls : List ℕ) (starts strides : List ℤ) (i : ℕ) → i < length ls → length ls ≡ length starts → length ls ≡ length strides
+    → flat_map (λ p. indexed p.1.0 p.1.1 p.0) (take (i + 1) (zip ls (zip starts strides)))
+    ≡ flat_map (λ p. indexed p.1.0 p.1.1 p.0) (take i (zip ls (zip starts strides))) ++ indexed (get_or starts i (pos 0)) (get_or strides i (pos 0)) (get_or ls i 0)
+segmented_index_more ls starts strides i h same also =
+    let inner = length-zip starts strides in
+    let outer = length-zip ls (zip starts strides) in
+    let done = flat_map (λ p. indexed p.1.0 p.1.1 p.0) (take i (zip ls (zip starts strides))) in
+    flat_map-take_more (λ p. indexed p.1.0 p.1.1 p.0) (zip ls (zip starts strides)) i (0, (pos 0, pos 0)) (omega arith)
+    ∙ ap (λ p. done ++ indexed p.1.0 p.1.1 p.0) (get_or-zip ls (zip starts strides) i (0, (pos 0, pos 0)) h (omega arith))
+    ∙ ap (λ q. done ++ indexed q.0 q.1 (get_or ls i 0)) (get_or-zip starts strides i (pos 0, pos 0) (omega arith) (omega arith))
+
+pub segmented_index_all : (ls : List ℕ) (starts strides : List ℤ) (i : ℕ) → length ls ≤ i
+    → flat_map (λ p. indexed p.1.0 p.1.1 p.0) (take i (zip ls (zip starts strides))) ≡ segmented_index ls starts strides
+segmented_index_all ls starts strides i h =
+    let long = length-zip ls (zip starts strides) in ap (flat_map (λ p. indexed p.1.0 p.1.1 p.0)) (take_all i (zip ls (zip starts strides)) (omega arith))
+
+-- one more item of a segment
+pub indexed_push : (start stride : ℤ) (i : ℕ) → indexed start stride (i + 1) ≡ indexed start stride i ++ item_at start stride i ∷ []
+unfolding indexed
+indexed_push start stride i = map-range_with_len_more (item_at start stride) 0 i i (zero-add i)
+
+pub indexed_none : (start stride : ℤ) → indexed start stride 0 ≡ []
+unfolding indexed
+indexed_none start stride = refl

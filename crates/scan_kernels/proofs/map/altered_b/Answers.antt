@@ -1,0 +1,12 @@
+use Rattle.std.proofs.Common.{arith, ◌∙◌, ap, map, false}
+use Rattle.std.proofs.lemmas.List.{map_more, take_all}
+use Rattle.scan_kernels.specs.BooleanOps.{alter_b}
+use Rattle.scan_kernels.proofs.map.altered_b.Goals as goal
+
+pub loop-x-preserved : goal.loop-x-preserved
+loop-x-preserved c =
+    let more = map_more (alter_b c.args.op) c.args.a.now c.loop-x.x-index false c.loop-x-test.true in
+    record { made = cc; long = omega arith; room = omega arith }
+
+pub returns : goal.returns
+returns c = c.loop-x.invariant.made ∙ ap (map (alter_b c.args.op)) (take_all c.loop-x.x-index c.args.a.now c.loop-x-test.false)

@@ -1,0 +1,16 @@
+use Rattle.std.proofs.Common.{arith}
+use Rattle.scan_kernels.proofs.NextSegment.{sum-take_more, segmented_reduce-take_more}
+use Rattle.scan_kernels.proofs.reduce.reduce.Goals as goal
+
+pub loop-length-preserved : goal.loop-length-preserved
+loop-length-preserved g c =
+    let op = g.O.Combine.combined c.args.op in
+    let u = g.O.Combine.unit_of c.args.op in
+    let xs = c.args.items.now in
+    let ls = c.args.lengths.now in
+    let i = c.loop-length.length-index in
+    let at = c.loop-length.at in
+    let place = c.loop-length.invariant.place in
+    let total = sum-take_more ls i c.loop-length-test.true in
+    let more = segmented_reduce-take_more op u ls i at xs c.loop-length-test.true place in
+    record { place = omega arith; made = cc; long = omega arith; room = omega arith }

@@ -1,0 +1,10 @@
+pub mod BooleanOps
+pub mod BooleanScans
+pub mod Distributed
+pub mod Elementwise
+pub mod Indexed
+pub mod IntegerOps
+pub mod IntegerScans
+pub mod Metering
+pub mod Prefixes
+pub mod Segmented

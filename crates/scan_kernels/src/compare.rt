@@ -1,0 +1,52 @@
+//! A comparison item by item. Want of memory leaves the meter as it was.
+
+ghost use Rattle.std.specs.Prelude.{◌≡◌, length, IfOk, OnOk, OnErr};
+ghost use Rattle.scan_kernels.specs.IntegerOps.{compares};
+ghost use Rattle.scan_kernels.specs.Elementwise.{item_by_item};
+ghost use Rattle.scan_kernels.specs.Metering.{raised};
+
+use crate::meter::Meter;
+use crate::operation::Cmp;
+use segment_desc::OutOfMemory;
+use std::alloc::{AllocError, Global};
+use std::thread::Threads;
+
+/// Whether the comparison holds of the two integers at each place of two vectors of one length, in one pass into a vector
+/// of its final size.
+pub fn compare2(
+    _rt: &(impl Threads + Sync),
+    alloc: Global,
+    meter: &mut Meter,
+    op: Cmp,
+    a: &[i64],
+    b: &[i64],
+) -> Result<Vec<bool>, OutOfMemory>
+    requires { length a.now ≡ length b.now }
+    ensures map { IfOk result (λ v. v.items ≡ item_by_item (compares op) a.now b.now) }
+    ensures counted { OnOk result (meter.new ≡ raised meter.old) }
+    ensures err { OnErr result (meter.new ≡ meter.old) }
+{
+    let made = match op {
+        Cmp::Eql => compared(alloc, Cmp::Eql, a, b)?,
+        Cmp::Neq => compared(alloc, Cmp::Neq, a, b)?,
+        Cmp::Les => compared(alloc, Cmp::Les, a, b)?,
+        Cmp::Leq => compared(alloc, Cmp::Leq, a, b)?,
+        Cmp::Grt => compared(alloc, Cmp::Grt, a, b)?,
+        Cmp::Geq => compared(alloc, Cmp::Geq, a, b)?,
+    };
+    meter.raise();
+    Ok(made)
+}
+
+// Inlined, so that the loop is built for each comparison that a caller names.
+#[inline(always)]
+fn compared(alloc: Global, op: Cmp, a: &[i64], b: &[i64]) -> Result<Vec<bool>, AllocError>
+    requires { length a.now ≡ length b.now }
+    ensures { IfOk result (λ v. v.items ≡ item_by_item (compares op) a.now b.now) }
+{
+    let mut made = Vec::with_capacity(alloc, a.len())?;
+    for i in 0..a.len() {
+        made.push_reserved(op.apply(a[i], b[i]));
+    }
+    Ok(made)
+}

@@ -1,0 +1,74 @@
+//! Integers as truth values, and truth values as integers. Want of memory leaves the meter as it was.
+
+ghost use Rattle.std.specs.Prelude.{◌≡◌, map, IfOk, OnOk, OnErr};
+ghost use Rattle.scan_kernels.specs.Elementwise.{as_number, is_true};
+ghost use Rattle.scan_kernels.specs.Metering.{raised};
+
+use crate::meter::Meter;
+use segment_desc::OutOfMemory;
+use std::alloc::{AllocError, Global};
+use std::thread::Threads;
+
+/// True for each integer that is not 0, in one pass into a vector of its final size.
+pub fn truth(
+    _rt: &(impl Threads + Sync),
+    alloc: Global,
+    meter: &mut Meter,
+    a: &[i64],
+) -> Result<Vec<bool>, OutOfMemory>
+    ensures map { IfOk result (λ v. v.items ≡ map is_true a.now) }
+    ensures counted { OnOk result (meter.new ≡ raised meter.old) }
+    ensures err { OnErr result (meter.new ≡ meter.old) }
+{
+    let made = truths(alloc, a)?;
+    meter.raise();
+    Ok(made)
+}
+
+fn truths(alloc: Global, a: &[i64]) -> Result<Vec<bool>, AllocError>
+    ensures { IfOk result (λ v. v.items ≡ map is_true a.now) }
+{
+    let mut made = Vec::with_capacity(alloc, a.len())?;
+    for x in a {
+        made.push_reserved(is_true(*x));
+    }
+    Ok(made)
+}
+
+fn is_true(x: i64) -> bool
+    ensures { result ≡ is_true x }
+{
+    x != 0
+}
+
+/// 1 for each truth value that is true and 0 for the others, in one pass into a vector of its final size.
+pub fn number(
+    _rt: &(impl Threads + Sync),
+    alloc: Global,
+    meter: &mut Meter,
+    a: &[bool],
+) -> Result<Vec<i64>, OutOfMemory>
+    ensures map { IfOk result (λ v. v.items ≡ map as_number a.now) }
+    ensures counted { OnOk result (meter.new ≡ raised meter.old) }
+    ensures err { OnErr result (meter.new ≡ meter.old) }
+{
+    let made = numbers(alloc, a)?;
+    meter.raise();
+    Ok(made)
+}
+
+fn numbers(alloc: Global, a: &[bool]) -> Result<Vec<i64>, AllocError>
+    ensures { IfOk result (λ v. v.items ≡ map as_number a.now) }
+{
+    let mut made = Vec::with_capacity(alloc, a.len())?;
+    for x in a {
+        made.push_reserved(as_number(*x));
+    }
+    Ok(made)
+}
+
+fn as_number(x: bool) -> i64
+    ensures { result ≡ as_number x }
+{
+    if x { 1 } else { 0 }
+}

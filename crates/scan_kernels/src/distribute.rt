@@ -1,0 +1,77 @@
+//! Each value as often as its segment is long.
+
+ghost use Rattle.std.specs.Prelude.{◌≡◌, ◌+◌, ◌≤◌, ◌++◌, length, sum, replicate, vec_len, vec_capacity, IfOk, OnOk, OnErr};
+ghost use Rattle.scan_kernels.specs.Distributed.{distributed};
+ghost use Rattle.scan_kernels.specs.Metering.{raised};
+
+use crate::meter::Meter;
+use segment_desc::{OutOfMemory, Segd};
+use std::alloc::{AllocError, Global};
+use std::thread::Threads;
+
+/// Integer j as often as segment j is long, in one pass into a vector of its final size. There are as many integers as
+/// segments.
+pub fn distribute_z(
+    _rt: &(impl Threads + Sync),
+    alloc: Global,
+    meter: &mut Meter,
+    values: &[i64],
+    segments: &Segd,
+) -> Result<Vec<i64>, OutOfMemory>
+    requires { length segments.now ≡ length values.now }
+    ensures distribute { IfOk result (λ v. v.items ≡ distributed segments.now values.now) }
+    ensures counted { OnOk result (meter.new ≡ raised meter.old) }
+    ensures err { OnErr result (meter.new ≡ meter.old) }
+{
+    let made = distribute(alloc, values, segments.lengths(), segments.total())?;
+    meter.raise();
+    Ok(made)
+}
+
+/// Truth value j as often as segment j is long, in one pass into a vector of its final size. There are as many truth
+/// values as segments.
+pub fn distribute_b(
+    _rt: &(impl Threads + Sync),
+    alloc: Global,
+    meter: &mut Meter,
+    flags: &[bool],
+    segments: &Segd,
+) -> Result<Vec<bool>, OutOfMemory>
+    requires { length segments.now ≡ length flags.now }
+    ensures distribute { IfOk result (λ v. v.items ≡ distributed segments.now flags.now) }
+    ensures counted { OnOk result (meter.new ≡ raised meter.old) }
+    ensures err { OnErr result (meter.new ≡ meter.old) }
+{
+    let made = distribute(alloc, flags, segments.lengths(), segments.total())?;
+    meter.raise();
+    Ok(made)
+}
+
+fn distribute<T: Copy>(
+    alloc: Global,
+    values: &[T],
+    lengths: &[usize],
+    total: usize,
+) -> Result<Vec<T>, AllocError>
+    requires count { length lengths.now ≡ length values.now }
+    requires total { total ≡ sum lengths.now }
+    ensures { IfOk result (λ v. v.items ≡ distributed lengths.now values.now) }
+{
+    let mut made = Vec::with_capacity(alloc, total)?;
+    for j in 0..lengths.len() {
+        repeat(values[j], lengths[j], &mut made);
+    }
+    Ok(made)
+}
+
+#[inline(always)]
+fn repeat<T: Copy>(value: T, times: usize, made: &mut Vec<T>)
+    requires { vec_len made.old + times ≤ vec_capacity made.old }
+    ensures repeated { made.new.items ≡ made.old.items ++ replicate times value }
+    ensures long { vec_len made.new ≡ vec_len made.old + times }
+    ensures capacity { vec_capacity made.new ≡ vec_capacity made.old }
+{
+    for _copy in 0..times {
+        made.push_reserved(value);
+    }
+}

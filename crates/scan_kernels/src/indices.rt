@@ -1,0 +1,74 @@
+//! Integers that rise by a stride from the start of each segment.
+
+ghost use Rattle.std.specs.Prelude.{◌≡◌, ◌+◌, ◌≤◌, ◌++◌, length, sum, vec_len, vec_capacity, IfOk, OnOk, OnErr};
+ghost use Rattle.segment_desc.specs.Lengths.{IsWithinLimits, most};
+ghost use Rattle.scan_kernels.specs.Indexed.{indexed, item_at, segmented_index};
+ghost use Rattle.scan_kernels.specs.Metering.{raised};
+
+use crate::meter::Meter;
+use segment_desc::{OutOfMemory, Segd};
+use std::alloc::{AllocError, Global};
+use std::thread::Threads;
+
+/// In segment j the integers from start j on by stride j, which wrap, in one pass into a vector of its final size. There
+/// are as many starts, and as many strides, as segments.
+pub fn index(
+    _rt: &(impl Threads + Sync),
+    alloc: Global,
+    meter: &mut Meter,
+    starts: &[i64],
+    strides: &[i64],
+    segments: &Segd,
+) -> Result<Vec<i64>, OutOfMemory>
+    requires starts { length segments.now ≡ length starts.now }
+    requires strides { length segments.now ≡ length strides.now }
+    ensures index { IfOk result (λ v. v.items ≡ segmented_index segments.now starts.now strides.now) }
+    ensures counted { OnOk result (meter.new ≡ raised meter.old) }
+    ensures err { OnErr result (meter.new ≡ meter.old) }
+{
+    let made = index_each(alloc, starts, strides, segments.lengths(), segments.total())?;
+    meter.raise();
+    Ok(made)
+}
+
+fn index_each(
+    alloc: Global,
+    starts: &[i64],
+    strides: &[i64],
+    lengths: &[usize],
+    total: usize,
+) -> Result<Vec<i64>, AllocError>
+    requires starts { length lengths.now ≡ length starts.now }
+    requires strides { length lengths.now ≡ length strides.now }
+    requires total { total ≡ sum lengths.now }
+    requires within { IsWithinLimits lengths.now }
+    ensures { IfOk result (λ v. v.items ≡ segmented_index lengths.now starts.now strides.now) }
+{
+    let mut made = Vec::with_capacity(alloc, total)?;
+    for j in 0..lengths.len() {
+        index_segment(starts[j], strides[j], lengths[j], &mut made);
+    }
+    Ok(made)
+}
+
+#[inline(always)]
+fn index_segment(start: i64, stride: i64, length: usize, made: &mut Vec<i64>)
+    requires room { vec_len made.old + length ≤ vec_capacity made.old }
+    requires within { length ≤ most }
+    ensures index { made.new.items ≡ made.old.items ++ indexed start stride length }
+    ensures long { vec_len made.new ≡ vec_len made.old + length }
+    ensures capacity { vec_capacity made.new ≡ vec_capacity made.old }
+{
+    for i in 0..length {
+        made.push_reserved(item_at(start, stride, i));
+    }
+}
+
+#[inline(always)]
+#[tactic(auto, unfolding(crate::specs::Indexed::item_at))]
+fn item_at(start: i64, stride: i64, place: usize) -> i64
+    requires { place ≤ most }
+    ensures { result ≡ item_at start stride place }
+{
+    start.wrapping_add((place as i64).wrapping_mul(stride))
+}

@@ -1,0 +1,106 @@
+//! The reduction of each segment, one segment after another.
+//!
+//! Each arm of a choice names its operation, so that the inlined loop is built once for each operation, without a choice
+//! at each item.
+
+ghost use Rattle.std.specs.Prelude.{◌≡◌, length, sum, fold, IfOk, OnOk, OnErr};
+ghost use Rattle.scan_kernels.specs.Segmented.{segmented_reduce};
+ghost use Rattle.scan_kernels.specs.IntegerScans.{combine_z, unit_z};
+ghost use Rattle.scan_kernels.specs.BooleanScans.{combine_b, unit_b};
+ghost use Rattle.scan_kernels.specs.Metering.{raised};
+
+use crate::combine::{Combine, ScanB, ScanZ};
+use crate::meter::Meter;
+use segment_desc::{OutOfMemory, Segd};
+use std::alloc::{AllocError, Global};
+use std::thread::Threads;
+
+/// What the operation makes of each segment of integers, in one pass into a vector with one item for each segment. The
+/// segments have all the items together.
+pub fn reduce_z(
+    _rt: &(impl Threads + Sync),
+    alloc: Global,
+    meter: &mut Meter,
+    op: ScanZ,
+    items: &[i64],
+    segments: &Segd,
+) -> Result<Vec<i64>, OutOfMemory>
+    requires { sum segments.now ≡ length items.now }
+    ensures reduce { IfOk result (λ v. v.items ≡ segmented_reduce (combine_z op) (unit_z op) segments.now items.now) }
+    ensures counted { OnOk result (meter.new ≡ raised meter.old) }
+    ensures err { OnErr result (meter.new ≡ meter.old) }
+{
+    let lengths = segments.lengths();
+    let made = match op {
+        ScanZ::Add => reduce(alloc, ScanZ::Add, items, lengths)?,
+        ScanZ::Mul => reduce(alloc, ScanZ::Mul, items, lengths)?,
+        ScanZ::Max => reduce(alloc, ScanZ::Max, items, lengths)?,
+        ScanZ::Min => reduce(alloc, ScanZ::Min, items, lengths)?,
+        ScanZ::And => reduce(alloc, ScanZ::And, items, lengths)?,
+        ScanZ::Ior => reduce(alloc, ScanZ::Ior, items, lengths)?,
+        ScanZ::Xor => reduce(alloc, ScanZ::Xor, items, lengths)?,
+    };
+    meter.raise();
+    Ok(made)
+}
+
+/// What the operation makes of each segment of truth values, in one pass into a vector with one item for each segment. The
+/// segments have all the items together.
+pub fn reduce_b(
+    _rt: &(impl Threads + Sync),
+    alloc: Global,
+    meter: &mut Meter,
+    op: ScanB,
+    items: &[bool],
+    segments: &Segd,
+) -> Result<Vec<bool>, OutOfMemory>
+    requires { sum segments.now ≡ length items.now }
+    ensures reduce { IfOk result (λ v. v.items ≡ segmented_reduce (combine_b op) (unit_b op) segments.now items.now) }
+    ensures counted { OnOk result (meter.new ≡ raised meter.old) }
+    ensures err { OnErr result (meter.new ≡ meter.old) }
+{
+    let lengths = segments.lengths();
+    let made = match op {
+        ScanB::And => reduce(alloc, ScanB::And, items, lengths)?,
+        ScanB::Ior => reduce(alloc, ScanB::Ior, items, lengths)?,
+        ScanB::Xor => reduce(alloc, ScanB::Xor, items, lengths)?,
+    };
+    meter.raise();
+    Ok(made)
+}
+
+#[inline(always)]
+fn reduce<O: Combine>(
+    alloc: Global,
+    op: O,
+    items: &[O::Item],
+    lengths: &[usize],
+) -> Result<Vec<O::Item>, AllocError>
+    requires { sum lengths.now ≡ length items.now }
+    ensures { IfOk result (λ v. v.items ≡ segmented_reduce (O.combined op) (O.unit_of op) lengths.now items.now) }
+{
+    let mut made = Vec::with_capacity(alloc, lengths.len())?;
+    let mut at = 0;
+    for &length in lengths {
+        let end = at + length;
+        made.push_reserved(reduce_segment(op, &items[at..end]));
+        at = end;
+    }
+    Ok(made)
+}
+
+#[inline(always)]
+#[tactic(auto, using(crate::proofs::Scanned::fold_push))]
+fn reduce_segment<O: Combine>(op: O, items: &[O::Item]) -> O::Item
+    ensures { result ≡ fold (O.combined op) (O.unit_of op) items.now }
+{
+    // Sooner done than the loop, which takes several items at a time, is begun.
+    if let [item] = items {
+        return op.combine(op.unit(), *item);
+    }
+    let mut so_far = op.unit();
+    for &item in items {
+        so_far = op.combine(so_far, item);
+    }
+    so_far
+}

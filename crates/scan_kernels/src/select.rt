@@ -1,0 +1,71 @@
+//! The choice between two vectors item by item. Want of memory leaves the meter as it was.
+
+ghost use Rattle.std.specs.Prelude.{◌≡◌, length, if◌then◌else◌, IfOk, OnOk, OnErr};
+ghost use Rattle.scan_kernels.specs.Elementwise.{selected};
+ghost use Rattle.scan_kernels.specs.Metering.{raised};
+
+use crate::meter::Meter;
+use segment_desc::OutOfMemory;
+use std::alloc::{AllocError, Global};
+use std::thread::Threads;
+
+/// At each place the integer of the first vector where the flag is set, else that of the second. All three have one
+/// length. One pass into a vector of its final size.
+pub fn select_z(
+    _rt: &(impl Threads + Sync),
+    alloc: Global,
+    meter: &mut Meter,
+    flags: &[bool],
+    a: &[i64],
+    b: &[i64],
+) -> Result<Vec<i64>, OutOfMemory>
+    requires first { length flags.now ≡ length a.now }
+    requires second { length flags.now ≡ length b.now }
+    ensures selected { IfOk result (λ v. v.items ≡ selected flags.now a.now b.now) }
+    ensures counted { OnOk result (meter.new ≡ raised meter.old) }
+    ensures err { OnErr result (meter.new ≡ meter.old) }
+{
+    let items = chosen(alloc, flags, a, b)?;
+    meter.raise();
+    Ok(items)
+}
+
+/// At each place the truth value of the first vector where the flag is set, else that of the second. All three have one
+/// length. One pass into a vector of its final size.
+pub fn select_b(
+    _rt: &(impl Threads + Sync),
+    alloc: Global,
+    meter: &mut Meter,
+    flags: &[bool],
+    a: &[bool],
+    b: &[bool],
+) -> Result<Vec<bool>, OutOfMemory>
+    requires first { length flags.now ≡ length a.now }
+    requires second { length flags.now ≡ length b.now }
+    ensures selected { IfOk result (λ v. v.items ≡ selected flags.now a.now b.now) }
+    ensures counted { OnOk result (meter.new ≡ raised meter.old) }
+    ensures err { OnErr result (meter.new ≡ meter.old) }
+{
+    let truths = chosen(alloc, flags, a, b)?;
+    meter.raise();
+    Ok(truths)
+}
+
+fn chosen<T: Copy>(alloc: Global, flags: &[bool], a: &[T], b: &[T]) -> Result<Vec<T>, AllocError>
+    requires first { length flags.now ≡ length a.now }
+    requires second { length flags.now ≡ length b.now }
+    ensures { IfOk result (λ v. v.items ≡ selected flags.now a.now b.now) }
+{
+    let mut made = Vec::with_capacity(alloc, flags.len())?;
+    for i in 0..flags.len() {
+        made.push_reserved(either(flags[i], a[i], b[i]));
+    }
+    Ok(made)
+}
+
+// Both items are read, so that the loop has no branch.
+fn either<T: Copy>(flag: bool, x: T, y: T) -> T
+    ensures { result ≡ (if flag then x else y) }
+{
+    if flag { x } else { y }
+}

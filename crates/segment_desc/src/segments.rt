@@ -1,0 +1,172 @@
+ghost use Rattle.std.specs.Prelude.{◌≡◌, ◌≢◌, ◌↔◌, ◌<◌, ◌≤◌, ◌∷◌, ◌++◌, [], length, sum, map, pos, slice_index, OnErr, OnOk, IfOk, IsErrOf, min, ◌-◌, ◌^◌};
+ghost use Rattle.segment_desc.specs.Lengths.{IsWithinLimits, IsTooLong, HasNegative, MeasuresTooLong, has_negative, most, sizes};
+
+use crate::memory::OutOfMemory;
+use std::alloc::{AllocError, Global};
+use std::marker::Model;
+use thiserror::Error;
+
+/// The most lengths of a segment list, and the greatest sum of them.
+pub const LIMIT: usize = 1_073_741_824;
+
+/// Why a segment list was not made or joined.
+#[derive(Clone, Copy, Debug, Error, PartialEq, Eq)]
+pub enum SegFault {
+    /// A length is below 0.
+    #[error("a length below 0")]
+    Negative,
+    /// There are more lengths than `LIMIT`, or their sum is greater.
+    #[error("too long")]
+    TooLong,
+    /// An allocation was refused.
+    #[error("out of memory")]
+    OutOfMemory,
+}
+
+impl From<AllocError> for SegFault {
+    ghost use Rattle.segment_desc.specs.declared.segments.SegFault.TheVariants.{OutOfMemory};
+
+    ghost from_gives = { λ _ e. e ≡ OutOfMemory };
+
+    fn from(_refused: AllocError) -> SegFault {
+        SegFault::OutOfMemory
+    }
+}
+
+/// How a vector is cut into segments: the list of their lengths, some of which may be 0. There are at most `LIMIT` of
+/// them, and their sum is at most `LIMIT`.
+#[derive(Drop)]
+pub struct Segd {
+    lengths: Vec<usize>,
+    total: usize,
+}
+
+impl Model for Segd {
+    ghost use Rattle.std.specs.Prelude.{◌≡◌, List, ℕ, sum};
+    ghost use Rattle.segment_desc.specs.Lengths.{IsWithinLimits};
+
+    ghost Value = { List ℕ };
+
+    ghost view = { λ s. s.lengths.items };
+
+    ghost invariant = { λ s. (s.total ≡ sum s.lengths.items) × IsWithinLimits s.lengths.items };
+}
+
+impl Segd {
+    /// A segment list of these lengths. A length below 0 is told first, then too many of them or too great a sum.
+    pub fn from_lengths(alloc: Global, lengths: &[i64]) -> Result<Segd, SegFault>
+        ensures ok { IfOk result (λ s. map pos s ≡ lengths.now) }
+        ensures negative { IsErrOf result SegFault.Negative ↔ HasNegative lengths.now }
+        ensures too_long { IsErrOf result SegFault.TooLong ↔ MeasuresTooLong lengths.now }
+    {
+        if has_negative(lengths) {
+            return Err(SegFault::Negative);
+        }
+        let total = total_size(lengths);
+        if LIMIT < lengths.len() || LIMIT < total {
+            return Err(SegFault::TooLong);
+        }
+        let mut kept = Vec::with_capacity(alloc, lengths.len())?;
+        for length in lengths {
+            kept.push_reserved(length.unsigned_abs() as usize);
+        }
+        Ok(Segd {
+            lengths: kept,
+            total,
+        })
+    }
+
+    /// One segment of `length` items.
+    pub fn one(alloc: Global, length: u64) -> Result<Segd, SegFault>
+        ensures ok { IfOk result (λ s. s ≡ length ∷ []) }
+        ensures too_long { IsErrOf result SegFault.TooLong ↔ (most < length) }
+        ensures never_negative { result ≢ Err SegFault.Negative }
+    {
+        let length = length as usize;
+        if LIMIT < length {
+            return Err(SegFault::TooLong);
+        }
+        let mut lengths = Vec::with_capacity(alloc, 1)?;
+        lengths.push_reserved(length);
+        Ok(Segd {
+            lengths,
+            total: length,
+        })
+    }
+
+    /// How many segments there are.
+    pub fn count(&self) -> usize
+        ensures count { result ≡ length self.now }
+        ensures within { result ≤ most }
+    {
+        self.lengths.len()
+    }
+
+    /// How many items all the segments have together.
+    pub fn total(&self) -> usize
+        ensures total { result ≡ sum self.now }
+        ensures within { result ≤ most }
+    {
+        self.total
+    }
+
+    /// How many items segment `i` has, counted from 0.
+    pub fn length(&self, i: usize) -> usize
+        requires { i < length self.now }
+        ensures { result ≡ slice_index self.now i }
+    {
+        self.lengths[i]
+    }
+
+    /// All the lengths.
+    pub fn lengths(&self) -> &[usize]
+        ensures lengths { result.now ≡ self.now }
+        ensures within { IsWithinLimits self.now }
+    {
+        self.lengths.as_slice()
+    }
+
+    /// Appends all the lengths to a list.
+    pub fn lengths_into(&self, list: &mut Vec<i64>) -> Result<(), OutOfMemory>
+        ensures ok { OnOk result (list.new.items ≡ list.old.items ++ map pos self.now) }
+        ensures err { OnErr result (list.new.items ≡ list.old.items) }
+    {
+        list.reserve(self.lengths.len())?;
+        for &length in &self.lengths {
+            list.push_reserved(length as i64);
+        }
+        Ok(())
+    }
+
+    /// Appends the lengths of another segment list.
+    pub fn join(&mut self, other: &Segd) -> Result<(), SegFault>
+        ensures ok { OnOk result (self.new ≡ self.old ++ other.now) }
+        ensures too_long { IsErrOf result SegFault.TooLong ↔ IsTooLong (self.old ++ other.now) }
+        ensures never_negative { result ≢ Err SegFault.Negative }
+        ensures err { OnErr result (self.new ≡ self.old) }
+    {
+        if LIMIT - self.lengths.len() < other.lengths.len() || LIMIT - self.total < other.total {
+            return Err(SegFault::TooLong);
+        }
+        self.lengths.extend_from_slice(&other.lengths)?;
+        self.total += other.total;
+        Ok(())
+    }
+}
+
+fn has_negative(lengths: &[i64]) -> bool
+    ensures { result ≡ has_negative lengths.now }
+{
+    lengths.iter().any(|&length| length < 0)
+}
+
+// The sum of the sizes, or the greatest number where it is more.
+fn total_size(lengths: &[i64]) -> usize
+    ensures { result ≡ min (sum (sizes lengths.now)) (2 ^ 64 - 1) }
+{
+    let mut total = 0usize;
+    for length in lengths {
+        total = total.saturating_add(length.unsigned_abs() as usize);
+    }
+    total
+}
