@@ -1,5 +1,6 @@
 //! The benchmark program. `bench kernels` times the kernels, and prints a line for each row:
-//! `kernels TAB row TAB cvl TAB nanoseconds an item`, where a row is a kernel and how many items it runs over.
+//! `kernels TAB row TAB cvl TAB nanoseconds an item`, where a row is a kernel and how many items it runs over. Without
+//! arguments it prints its usage; so it does for other arguments, with status 2.
 #![tactic(auto)]
 
 mod case;
@@ -33,22 +34,39 @@ fn kernels<R: Alloc<A = Global> + Clock + Print + Threads + Sync>(rt: &R) -> io:
     Ok(())
 }
 
-/// Whether the one argument asks for the kernels.
-fn asks_for_kernels(rt: &HostRuntime) -> io::Result<bool> {
+/// What the arguments ask for.
+enum Asked {
+    Usage,
+    Kernels,
+    Unknown,
+}
+
+fn read_arguments(rt: &HostRuntime) -> io::Result<Asked> {
     let mut words = env::args(rt)?;
     words.next();
-    let asked = match words.next() {
-        Some(word) => word.as_str() == "kernels",
-        None => false,
+    let Some(word) = words.next() else {
+        return Ok(Asked::Usage);
     };
-    Ok(asked && words.next().is_none())
+    if word.as_str() == "kernels" && words.next().is_none() {
+        Ok(Asked::Kernels)
+    } else {
+        Ok(Asked::Unknown)
+    }
 }
 
 fn main(rt: HostRuntime) -> io::Result<ExitCode> {
-    if !asks_for_kernels(&rt)? {
-        println!(rt; "{USAGE}")?;
-        return Ok(ExitCode::SUCCESS);
+    match read_arguments(&rt)? {
+        Asked::Kernels => {
+            kernels(&rt)?;
+            Ok(ExitCode::SUCCESS)
+        }
+        Asked::Usage => {
+            println!(rt; "{USAGE}")?;
+            Ok(ExitCode::SUCCESS)
+        }
+        Asked::Unknown => {
+            println!(rt; "{USAGE}")?;
+            Ok(ExitCode::from(2))
+        }
     }
-    kernels(&rt)?;
-    Ok(ExitCode::SUCCESS)
 }

@@ -5,7 +5,6 @@ use crate::inputs::Inputs;
 use scan_kernels::Meter;
 use std::alloc::Global;
 use std::io;
-use std::io::ErrorKind;
 use std::rt::Clock;
 use std::thread::Threads;
 use std::time::Instant;
@@ -32,9 +31,7 @@ fn time<R: Alloc<A = Global> + Clock + Threads + Sync>(
     let mut meter = Meter::new();
     let start = Instant::now(rt)?;
     for _ in 0..runs {
-        if case.run(rt, &mut meter, inputs).is_err() {
-            return Err(io::Error::from(ErrorKind::OutOfMemory));
-        }
+        case.run(rt, &mut meter, inputs)?;
     }
     Ok(u32::try_from(start.elapsed(rt)?.as_nanos()).unwrap_or(u32::MAX))
 }

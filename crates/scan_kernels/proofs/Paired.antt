@@ -1,6 +1,7 @@
 -- Lists that are paired place by place, one more place at a time: `distributed_more`, `segmented_index_more`, and
--- `indexed_push` (one more item of a segment).
-use Rattle.std.proofs.Common.{◌≡◌, ℕ, ◌+◌, ◌<◌, ◌≤◌, List, [], ◌∷◌, ◌++◌, length, take, replicate, ℤ, pos, refl, ap, ◌∙◌, get_or, arith, zero-add}
+-- `indexed_push` (one more item of a segment); in two parts: `distributed-lengths-append`,
+-- `segmented_index-lengths-append`; over segments of one item each: `distributed-ones`, `segmented_index-ones`.
+use Rattle.std.proofs.Common.{◌≡◌, ℕ, zero, suc, ◌+◌, ◌<◌, ◌≤◌, List, [], ◌∷◌, ◌++◌, length, take, drop, map, replicate, ℤ, pos, refl, sym, ap, ◌∙◌, get_or, All, arith, zero-add, append_assoc}
 use Rattle.std.specs.List.{zip, flat_map}
 use Rattle.std.proofs.lemmas.List.{take_more, take_all, append-nil}
 use Rattle.std.proofs.lemmas.List.Concat.{flat_map-append}
@@ -8,6 +9,7 @@ use Rattle.std.proofs.lemmas.List.FromFn.{map-range_with_len_more}
 use Rattle.std.proofs.lemmas.Slice.Zip.{length-zip, get_or-zip}
 use Rattle.scan_kernels.specs.Distributed.{distributed}
 use Rattle.scan_kernels.specs.Indexed.{item_at, indexed, segmented_index}
+use Rattle.scan_kernels.proofs.OneItem.{all_ones}
 
 flat_map-take_more : {X Y : Type 0} (f : X → List Y) (xs : List X) (i : ℕ) (d : X) → i < length xs → flat_map f (take (i + 1) xs) ≡ flat_map f (take i xs) ++ f (get_or xs i d)
 flat_map-take_more f xs i d h =
@@ -49,3 +51,46 @@ indexed_push start stride i = map-range_with_len_more (item_at start stride) 0 i
 pub indexed_none : (start stride : ℤ) → indexed start stride 0 ≡ []
 unfolding indexed
 indexed_none start stride = refl
+
+-- the later segments take the later values
+pub distributed-lengths-append : {X : Type 0} (ks ls : List ℕ) (xs : List X) → length ks ≤ length xs → distributed (ks ++ ls) xs ≡ distributed ks (take (length ks) xs) ++ distributed ls (drop (length ks) xs)
+distributed-lengths-append [] ls xs h = refl
+distributed-lengths-append (k ∷ ks) ls [] h = absurd (omega arith)
+distributed-lengths-append (k ∷ ks) ls (x ∷ xs) h =
+    ap (λ l. replicate k x ++ l) (distributed-lengths-append ks ls xs (omega arith))
+    ∙ sym (append_assoc (replicate k x) (distributed ks (take (length ks) xs)) (distributed ls (drop (length ks) xs)))
+
+pub segmented_index-lengths-append : (ks ls : List ℕ) (starts strides : List ℤ) → length ks ≤ length starts → length ks ≤ length strides
+    → segmented_index (ks ++ ls) starts strides
+    ≡ segmented_index ks (take (length ks) starts) (take (length ks) strides) ++ segmented_index ls (drop (length ks) starts) (drop (length ks) strides)
+segmented_index-lengths-append [] ls starts strides h also = refl
+segmented_index-lengths-append (k ∷ ks) ls [] strides h also = absurd (omega arith)
+segmented_index-lengths-append (k ∷ ks) ls (s ∷ starts) [] h also = absurd (omega arith)
+segmented_index-lengths-append (k ∷ ks) ls (s ∷ starts) (d ∷ strides) h also =
+    ap (λ l. indexed s d k ++ l) (segmented_index-lengths-append ks ls starts strides (omega arith) (omega arith))
+    ∙ sym (append_assoc (indexed s d k) (segmented_index ks (take (length ks) starts) (take (length ks) strides)) (segmented_index ls (drop (length ks) starts) (drop (length ks) strides)))
+
+-- segments of one item each
+distributed_each : {X : Type 0} (n : ℕ) (xs : List X) → n ≡ length xs → distributed (replicate n 1) xs ≡ xs
+distributed_each zero [] h = refl
+distributed_each zero (x ∷ xs) h = absurd (omega arith)
+distributed_each (suc n) [] h = absurd (omega arith)
+distributed_each (suc n) (x ∷ xs) h = ap (λ l. x ∷ l) (distributed_each n xs (omega arith))
+
+pub distributed-ones : {X : Type 0} (ls : List ℕ) (xs : List X) → All (λ l. l ≡ 1) ls → length ls ≡ length xs → distributed ls xs ≡ xs
+distributed-ones ls xs h same = ap (λ ks. distributed ks xs) (all_ones ls h) ∙ distributed_each (length ls) xs same
+
+pub indexed_one : (start stride : ℤ) → indexed start stride 1 ≡ item_at start stride 0 ∷ []
+unfolding indexed
+indexed_one start stride = refl
+
+indexed_each : (n : ℕ) (starts strides : List ℤ) → n ≡ length starts → n ≡ length strides → segmented_index (replicate n 1) starts strides ≡ map (λ p. item_at p.0 p.1 0) (zip starts strides)
+indexed_each zero [] strides h also = refl
+indexed_each zero (s ∷ starts) strides h also = absurd (omega arith)
+indexed_each (suc n) [] strides h also = absurd (omega arith)
+indexed_each (suc n) (s ∷ starts) [] h also = absurd (omega arith)
+indexed_each (suc n) (s ∷ starts) (d ∷ strides) h also =
+    ap (λ l. l ++ segmented_index (replicate n 1) starts strides) (indexed_one s d) ∙ ap (λ l. item_at s d 0 ∷ l) (indexed_each n starts strides (omega arith) (omega arith))
+
+pub segmented_index-ones : (ls : List ℕ) (starts strides : List ℤ) → All (λ l. l ≡ 1) ls → length ls ≡ length starts → length ls ≡ length strides → segmented_index ls starts strides ≡ map (λ p. item_at p.0 p.1 0) (zip starts strides)
+segmented_index-ones ls starts strides h same also = ap (λ ks. segmented_index ks starts strides) (all_ones ls h) ∙ indexed_each (length ls) starts strides same also

@@ -1,5 +1,5 @@
--- An exclusive scan, item by item: `scanned_push` and `fold_push` (one more item), `length-scanned`, `slice_get-scanned`
--- (the item at a place).
+-- An exclusive scan, item by item: `scanned_push` and `fold_push` (one more item), `scanned-append` (items in two parts),
+-- `length-scanned`, `slice_get-scanned` (the item at a place).
 use Rattle.std.proofs.Common.{◌≡◌, ℕ, zero, suc, ◌+◌, ◌<◌, List, [], ◌∷◌, ◌++◌, length, take, map, Some, refl, sym, ap, ◌∙◌, add-one, arith}
 use Rattle.std.specs.List.{fold, range_with_len, slice_get}
 use Rattle.std.proofs.lemmas.List.Sums.{fold-append}
@@ -34,6 +34,14 @@ module _ {X : Type 0} (op : X → X → X) where
   pub scanned_push : (a : X) (xs : List X) (x : X) → scanned op a (xs ++ x ∷ []) ≡ scanned op a xs ++ fold op a xs ∷ []
   scanned_push a xs x =
       scanned-running a (xs ++ x ∷ []) ∙ running-append a xs (x ∷ []) ∙ ap (λ l. l ++ fold op a xs ∷ []) (sym (scanned-running a xs))
+
+  -- a scan goes on behind the items before it, from what they come to
+  pub scanned-append : (a : X) (xs ys : List X) → scanned op a (xs ++ ys) ≡ scanned op a xs ++ scanned op (fold op a xs) ys
+  scanned-append a xs ys =
+      scanned-running a (xs ++ ys)
+      ∙ running-append a xs ys
+      ∙ ap (λ l. l ++ running (fold op a xs) ys) (sym (scanned-running a xs))
+      ∙ ap (λ l. scanned op a xs ++ l) (sym (scanned-running (fold op a xs) ys))
 
   pub fold_push : (a : X) (xs : List X) (x : X) → fold op a (xs ++ x ∷ []) ≡ op (fold op a xs) x
   fold_push a xs x = fold-append op a xs (x ∷ [])

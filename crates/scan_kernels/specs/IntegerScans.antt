@@ -1,18 +1,24 @@
 -- The operations that scan and reduce integers.
 use Rattle.std.specs.Prelude.{ℤ, pos, neg_ℤ}
-use Rattle.std.specs.Int.{w64, int_wrapping_add, int_wrapping_mul, int_max, int_min, int_bit_and, int_bit_or, int_bit_xor}
 use Rattle.scan_kernels.specs.declared.combine.ScanZ.{ScanZ}
 use Rattle.scan_kernels.specs.declared.combine.ScanZ.TheVariants.{Add, Mul, Max, Min, And, Ior, Xor}
+use Rattle.scan_kernels.specs.declared.operation.Z2.{Z2}
+use Rattle.scan_kernels.specs.declared.operation.Z2.TheVariants as words
+use Rattle.scan_kernels.specs.IntegerOps.{apply_z}
+
+-- the operation on two integers that is done again and again
+abbrev pub repeated_z : ScanZ → Z2
+repeated_z Add = words.Add
+repeated_z Mul = words.Mul
+repeated_z Max = words.Max
+repeated_z Min = words.Min
+repeated_z And = words.And
+repeated_z Ior = words.Ior
+repeated_z Xor = words.Xor
 
 -- what the operation makes of two integers
 abbrev pub combine_z : ScanZ → ℤ → ℤ → ℤ
-combine_z Add x y = int_wrapping_add w64 x y
-combine_z Mul x y = int_wrapping_mul w64 x y
-combine_z Max x y = int_max x y
-combine_z Min x y = int_min x y
-combine_z And x y = int_bit_and w64 x y
-combine_z Ior x y = int_bit_or w64 x y
-combine_z Xor x y = int_bit_xor w64 x y
+combine_z op x y = apply_z (repeated_z op) x y
 
 -- what the operation makes of no integers
 abbrev pub unit_z : ScanZ → ℤ

@@ -1,10 +1,12 @@
 //! Each value as often as its segment is long.
 
-ghost use Rattle.std.specs.Prelude.{◌≡◌, ◌+◌, ◌≤◌, ◌++◌, length, sum, replicate, vec_len, vec_capacity, IfOk, OnOk, OnErr};
+ghost use Rattle.std.specs.Prelude.{◌≡◌, ◌+◌, ◌≤◌, ◌++◌, length, sum, vec_len, vec_capacity, IfOk, OnOk, OnErr};
 ghost use Rattle.scan_kernels.specs.Distributed.{distributed};
 ghost use Rattle.scan_kernels.specs.Metering.{raised};
 
+use crate::fill::{copy, repeat};
 use crate::meter::Meter;
+use crate::singles::{BLOCK, are_single};
 use segment_desc::{OutOfMemory, Segd};
 use std::alloc::{AllocError, Global};
 use std::thread::Threads;
@@ -58,20 +60,39 @@ fn distribute<T: Copy>(
     ensures { IfOk result (λ v. v.items ≡ distributed lengths.now values.now) }
 {
     let mut made = Vec::with_capacity(alloc, total)?;
-    for j in 0..lengths.len() {
-        repeat(values[j], lengths[j], &mut made);
+    let mut rest = values;
+    for block in lengths.chunks(BLOCK) {
+        let (block_values, behind) = rest.split_at(block.len());
+        distribute_block(block_values, block, &mut made);
+        rest = behind;
     }
     Ok(made)
 }
 
 #[inline(always)]
-fn repeat<T: Copy>(value: T, times: usize, made: &mut Vec<T>)
-    requires { vec_len made.old + times ≤ vec_capacity made.old }
-    ensures repeated { made.new.items ≡ made.old.items ++ replicate times value }
-    ensures long { vec_len made.new ≡ vec_len made.old + times }
+fn distribute_block<T: Copy>(values: &[T], lengths: &[usize], made: &mut Vec<T>)
+    requires count { length lengths.now ≡ length values.now }
+    requires room { vec_len made.old + sum lengths.now ≤ vec_capacity made.old }
+    ensures distribute { made.new.items ≡ made.old.items ++ distributed lengths.now values.now }
+    ensures long { vec_len made.new ≡ vec_len made.old + sum lengths.now }
     ensures capacity { vec_capacity made.new ≡ vec_capacity made.old }
 {
-    for _copy in 0..times {
-        made.push_reserved(value);
+    if are_single(lengths) {
+        copy(values, made);
+    } else {
+        distribute_each(values, lengths, made);
+    }
+}
+
+#[inline(always)]
+fn distribute_each<T: Copy>(values: &[T], lengths: &[usize], made: &mut Vec<T>)
+    requires count { length lengths.now ≡ length values.now }
+    requires room { vec_len made.old + sum lengths.now ≤ vec_capacity made.old }
+    ensures distribute { made.new.items ≡ made.old.items ++ distributed lengths.now values.now }
+    ensures long { vec_len made.new ≡ vec_len made.old + sum lengths.now }
+    ensures capacity { vec_capacity made.new ≡ vec_capacity made.old }
+{
+    for j in 0..lengths.len() {
+        repeat(values[j], lengths[j], made);
     }
 }

@@ -1,11 +1,13 @@
 //! Integers that rise by a stride from the start of each segment.
 
-ghost use Rattle.std.specs.Prelude.{◌≡◌, ◌+◌, ◌≤◌, ◌++◌, length, sum, vec_len, vec_capacity, IfOk, OnOk, OnErr};
+ghost use Rattle.std.specs.Prelude.{◌≡◌, ◌+◌, ◌≤◌, ◌++◌, length, map, sum, vec_len, vec_capacity, IfOk, OnOk, OnErr};
+ghost use Rattle.std.specs.List.{zip};
 ghost use Rattle.segment_desc.specs.Lengths.{IsWithinLimits, most};
 ghost use Rattle.scan_kernels.specs.Indexed.{indexed, item_at, segmented_index};
 ghost use Rattle.scan_kernels.specs.Metering.{raised};
 
 use crate::meter::Meter;
+use crate::singles::{BLOCK, are_single};
 use segment_desc::{OutOfMemory, Segd};
 use std::alloc::{AllocError, Global};
 use std::thread::Threads;
@@ -45,10 +47,61 @@ fn index_each(
     ensures { IfOk result (λ v. v.items ≡ segmented_index lengths.now starts.now strides.now) }
 {
     let mut made = Vec::with_capacity(alloc, total)?;
-    for j in 0..lengths.len() {
-        index_segment(starts[j], strides[j], lengths[j], &mut made);
+    let mut rest_starts = starts;
+    let mut rest_strides = strides;
+    for block in lengths.chunks(BLOCK) {
+        let (block_starts, later_starts) = rest_starts.split_at(block.len());
+        let (block_strides, later_strides) = rest_strides.split_at(block.len());
+        index_block(block_starts, block_strides, block, &mut made);
+        rest_starts = later_starts;
+        rest_strides = later_strides;
     }
     Ok(made)
+}
+
+#[inline(always)]
+fn index_block(starts: &[i64], strides: &[i64], lengths: &[usize], made: &mut Vec<i64>)
+    requires starts { length lengths.now ≡ length starts.now }
+    requires strides { length lengths.now ≡ length strides.now }
+    requires room { vec_len made.old + sum lengths.now ≤ vec_capacity made.old }
+    requires within { IsWithinLimits lengths.now }
+    ensures index { made.new.items ≡ made.old.items ++ segmented_index lengths.now starts.now strides.now }
+    ensures long { vec_len made.new ≡ vec_len made.old + sum lengths.now }
+    ensures capacity { vec_capacity made.new ≡ vec_capacity made.old }
+{
+    if are_single(lengths) {
+        index_singles(starts, strides, made);
+    } else {
+        index_segments(starts, strides, lengths, made);
+    }
+}
+
+#[inline(always)]
+fn index_singles(starts: &[i64], strides: &[i64], made: &mut Vec<i64>)
+    requires same_length { length starts.now ≡ length strides.now }
+    requires room { vec_len made.old + length starts.now ≤ vec_capacity made.old }
+    ensures index { made.new.items ≡ made.old.items ++ map (λ p. item_at p.0 p.1 0) (zip starts.now strides.now) }
+    ensures long { vec_len made.new ≡ vec_len made.old + length starts.now }
+    ensures capacity { vec_capacity made.new ≡ vec_capacity made.old }
+{
+    for j in 0..starts.len() {
+        made.push_reserved(item_at(starts[j], strides[j], 0));
+    }
+}
+
+#[inline(always)]
+fn index_segments(starts: &[i64], strides: &[i64], lengths: &[usize], made: &mut Vec<i64>)
+    requires starts { length lengths.now ≡ length starts.now }
+    requires strides { length lengths.now ≡ length strides.now }
+    requires room { vec_len made.old + sum lengths.now ≤ vec_capacity made.old }
+    requires within { IsWithinLimits lengths.now }
+    ensures index { made.new.items ≡ made.old.items ++ segmented_index lengths.now starts.now strides.now }
+    ensures long { vec_len made.new ≡ vec_len made.old + sum lengths.now }
+    ensures capacity { vec_capacity made.new ≡ vec_capacity made.old }
+{
+    for j in 0..lengths.len() {
+        index_segment(starts[j], strides[j], lengths[j], made);
+    }
 }
 
 #[inline(always)]

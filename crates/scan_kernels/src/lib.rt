@@ -9,6 +9,7 @@ mod compare;
 mod conditions;
 mod convert;
 mod distribute;
+mod fill;
 mod indices;
 pub mod laws;
 mod map;
@@ -17,6 +18,7 @@ mod operation;
 mod reduce;
 mod scan;
 mod select;
+mod singles;
 #[cfg(test)]
 mod tests;
 

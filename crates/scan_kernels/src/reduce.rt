@@ -3,7 +3,7 @@
 //! Each arm of a choice names its operation, so that the inlined loop is built once for each operation, without a choice
 //! at each item.
 
-ghost use Rattle.std.specs.Prelude.{◌≡◌, length, sum, fold, IfOk, OnOk, OnErr};
+ghost use Rattle.std.specs.Prelude.{◌≡◌, ◌+◌, ◌≤◌, ◌++◌, length, drop, map, sum, fold, vec_len, vec_capacity, IfOk, OnOk, OnErr};
 ghost use Rattle.scan_kernels.specs.Segmented.{segmented_reduce};
 ghost use Rattle.scan_kernels.specs.IntegerScans.{combine_z, unit_z};
 ghost use Rattle.scan_kernels.specs.BooleanScans.{combine_b, unit_b};
@@ -11,6 +11,7 @@ ghost use Rattle.scan_kernels.specs.Metering.{raised};
 
 use crate::combine::{Combine, ScanB, ScanZ};
 use crate::meter::Meter;
+use crate::singles::{BLOCK, are_single};
 use segment_desc::{OutOfMemory, Segd};
 use std::alloc::{AllocError, Global};
 use std::thread::Threads;
@@ -80,13 +81,69 @@ fn reduce<O: Combine>(
     ensures { IfOk result (λ v. v.items ≡ segmented_reduce (O.combined op) (O.unit_of op) lengths.now items.now) }
 {
     let mut made = Vec::with_capacity(alloc, lengths.len())?;
-    let mut at = 0;
-    for &length in lengths {
-        let end = at + length;
-        made.push_reserved(reduce_segment(op, &items[at..end]));
-        at = end;
+    let mut rest = items;
+    for block in lengths.chunks(BLOCK) {
+        rest = reduce_block(op, rest, block, &mut made);
     }
     Ok(made)
+}
+
+// Reduces the first segments of the items, and gives the items behind them.
+#[inline(always)]
+fn reduce_block<'a, O: Combine>(
+    op: O,
+    items: &'a [O::Item],
+    lengths: &[usize],
+    made: &mut Vec<O::Item>,
+) -> &'a [O::Item]
+    requires within { sum lengths.now ≤ length items.now }
+    requires room { vec_len made.old + length lengths.now ≤ vec_capacity made.old }
+    ensures reduce { made.new.items ≡ made.old.items ++ segmented_reduce (O.combined op) (O.unit_of op) lengths.now items.now }
+    ensures rest { result.now ≡ drop (sum lengths.now) items.now }
+    ensures long { vec_len made.new ≡ vec_len made.old + length lengths.now }
+    ensures capacity { vec_capacity made.new ≡ vec_capacity made.old }
+{
+    if !are_single(lengths) {
+        return reduce_each(op, items, lengths, made);
+    }
+    let (singles, rest) = items.split_at(lengths.len());
+    reduce_singles(op, singles, made);
+    rest
+}
+
+#[inline(always)]
+fn reduce_singles<O: Combine>(op: O, items: &[O::Item], made: &mut Vec<O::Item>)
+    requires { vec_len made.old + length items.now ≤ vec_capacity made.old }
+    ensures reduce { made.new.items ≡ made.old.items ++ map (O.combined op (O.unit_of op)) items.now }
+    ensures long { vec_len made.new ≡ vec_len made.old + length items.now }
+    ensures capacity { vec_capacity made.new ≡ vec_capacity made.old }
+{
+    for &item in items {
+        made.push_reserved(op.combine(op.unit(), item));
+    }
+}
+
+#[inline(always)]
+fn reduce_each<'a, O: Combine>(
+    op: O,
+    items: &'a [O::Item],
+    lengths: &[usize],
+    made: &mut Vec<O::Item>,
+) -> &'a [O::Item]
+    requires within { sum lengths.now ≤ length items.now }
+    requires room { vec_len made.old + length lengths.now ≤ vec_capacity made.old }
+    ensures reduce { made.new.items ≡ made.old.items ++ segmented_reduce (O.combined op) (O.unit_of op) lengths.now items.now }
+    ensures rest { result.now ≡ drop (sum lengths.now) items.now }
+    ensures long { vec_len made.new ≡ vec_len made.old + length lengths.now }
+    ensures capacity { vec_capacity made.new ≡ vec_capacity made.old }
+{
+    let mut rest = items;
+    for &length in lengths {
+        let (segment, behind) = rest.split_at(length);
+        made.push_reserved(reduce_segment(op, segment));
+        rest = behind;
+    }
+    rest
 }
 
 #[inline(always)]
@@ -94,10 +151,6 @@ fn reduce<O: Combine>(
 fn reduce_segment<O: Combine>(op: O, items: &[O::Item]) -> O::Item
     ensures { result ≡ fold (O.combined op) (O.unit_of op) items.now }
 {
-    // Sooner done than the loop, which takes several items at a time, is begun.
-    if let [item] = items {
-        return op.combine(op.unit(), *item);
-    }
     let mut so_far = op.unit();
     for &item in items {
         so_far = op.combine(so_far, item);

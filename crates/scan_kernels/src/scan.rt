@@ -3,14 +3,16 @@
 //! Each arm of a choice names its operation, so that the inlined loop is built once for each operation, without a choice
 //! at each item.
 
-ghost use Rattle.std.specs.Prelude.{◌≡◌, ◌+◌, ◌≤◌, ◌++◌, length, sum, vec_len, vec_capacity, IfOk, OnOk, OnErr};
+ghost use Rattle.std.specs.Prelude.{◌≡◌, ◌+◌, ◌≤◌, ◌%◌, ◌++◌, length, drop, sum, fold, vec_len, vec_capacity, IfOk, OnOk, OnErr};
 ghost use Rattle.scan_kernels.specs.Segmented.{scanned, segmented_scan};
 ghost use Rattle.scan_kernels.specs.IntegerScans.{combine_z, unit_z};
 ghost use Rattle.scan_kernels.specs.BooleanScans.{combine_b, unit_b};
 ghost use Rattle.scan_kernels.specs.Metering.{raised};
 
 use crate::combine::{Combine, ScanB, ScanZ};
+use crate::fill::repeat;
 use crate::meter::Meter;
+use crate::singles::{BLOCK, are_single};
 use segment_desc::{OutOfMemory, Segd};
 use std::alloc::{AllocError, Global};
 use std::thread::Threads;
@@ -80,13 +82,57 @@ fn scan<O: Combine>(
     ensures { IfOk result (λ v. v.items ≡ segmented_scan (O.combined op) (O.unit_of op) lengths.now items.now) }
 {
     let mut made = Vec::with_capacity(alloc, items.len())?;
-    let mut at = 0;
-    for &length in lengths {
-        let end = at + length;
-        scan_segment(op, &items[at..end], &mut made);
-        at = end;
+    let mut rest = items;
+    for block in lengths.chunks(BLOCK) {
+        rest = scan_block(op, rest, block, &mut made);
     }
     Ok(made)
+}
+
+// Scans the first segments of the items, and gives the items behind them.
+#[inline(always)]
+fn scan_block<'a, O: Combine>(
+    op: O,
+    items: &'a [O::Item],
+    lengths: &[usize],
+    made: &mut Vec<O::Item>,
+) -> &'a [O::Item]
+    requires within { sum lengths.now ≤ length items.now }
+    requires room { vec_len made.old + sum lengths.now ≤ vec_capacity made.old }
+    ensures scan { made.new.items ≡ made.old.items ++ segmented_scan (O.combined op) (O.unit_of op) lengths.now items.now }
+    ensures rest { result.now ≡ drop (sum lengths.now) items.now }
+    ensures long { vec_len made.new ≡ vec_len made.old + sum lengths.now }
+    ensures capacity { vec_capacity made.new ≡ vec_capacity made.old }
+{
+    if !are_single(lengths) {
+        return scan_each(op, items, lengths, made);
+    }
+    let (singles, rest) = items.split_at(lengths.len());
+    repeat(op.unit(), singles.len(), made);
+    rest
+}
+
+#[inline(always)]
+fn scan_each<'a, O: Combine>(
+    op: O,
+    items: &'a [O::Item],
+    lengths: &[usize],
+    made: &mut Vec<O::Item>,
+) -> &'a [O::Item]
+    requires within { sum lengths.now ≤ length items.now }
+    requires room { vec_len made.old + sum lengths.now ≤ vec_capacity made.old }
+    ensures scan { made.new.items ≡ made.old.items ++ segmented_scan (O.combined op) (O.unit_of op) lengths.now items.now }
+    ensures rest { result.now ≡ drop (sum lengths.now) items.now }
+    ensures long { vec_len made.new ≡ vec_len made.old + sum lengths.now }
+    ensures capacity { vec_capacity made.new ≡ vec_capacity made.old }
+{
+    let mut rest = items;
+    for &length in lengths {
+        let (segment, behind) = rest.split_at(length);
+        scan_segment(op, segment, made);
+        rest = behind;
+    }
+    rest
 }
 
 #[inline(always)]
@@ -96,7 +142,66 @@ fn scan_segment<O: Combine>(op: O, items: &[O::Item], made: &mut Vec<O::Item>)
     ensures long { vec_len made.new ≡ vec_len made.old + length items.now }
     ensures capacity { vec_capacity made.new ≡ vec_capacity made.old }
 {
-    let mut so_far = op.unit();
+    let (fours, rest) = items.split_at(items.len() - items.len() % 4);
+    let so_far = scan_fours(op, op.unit(), fours, made);
+    scan_from(op, so_far, rest, made);
+}
+
+// Four items a turn, which takes fewer instructions an item than one.
+#[inline(always)]
+fn scan_fours<O: Combine>(
+    op: O,
+    first: O::Item,
+    items: &[O::Item],
+    made: &mut Vec<O::Item>,
+) -> O::Item
+    requires fours { length items.now % 4 ≡ 0 }
+    requires room { vec_len made.old + length items.now ≤ vec_capacity made.old }
+    ensures scan { made.new.items ≡ made.old.items ++ scanned (O.combined op) first items.now }
+    ensures last { result ≡ fold (O.combined op) first items.now }
+    ensures long { vec_len made.new ≡ vec_len made.old + length items.now }
+    ensures capacity { vec_capacity made.new ≡ vec_capacity made.old }
+{
+    let mut so_far = first;
+    for four in 0..items.len() / 4 {
+        let at = 4 * four;
+        so_far = scan_four(op, so_far, &items[at..at + 4], made);
+    }
+    so_far
+}
+
+#[inline(always)]
+fn scan_four<O: Combine>(
+    op: O,
+    first: O::Item,
+    items: &[O::Item],
+    made: &mut Vec<O::Item>,
+) -> O::Item
+    requires four { length items.now ≡ 4 }
+    requires room { vec_len made.old + 4 ≤ vec_capacity made.old }
+    ensures scan { made.new.items ≡ made.old.items ++ scanned (O.combined op) first items.now }
+    ensures last { result ≡ fold (O.combined op) first items.now }
+    ensures long { vec_len made.new ≡ vec_len made.old + 4 }
+    ensures capacity { vec_capacity made.new ≡ vec_capacity made.old }
+{
+    let second = op.combine(first, items[0]);
+    let third = op.combine(second, items[1]);
+    let fourth = op.combine(third, items[2]);
+    made.push_reserved(first);
+    made.push_reserved(second);
+    made.push_reserved(third);
+    made.push_reserved(fourth);
+    op.combine(fourth, items[3])
+}
+
+#[inline(always)]
+fn scan_from<O: Combine>(op: O, first: O::Item, items: &[O::Item], made: &mut Vec<O::Item>)
+    requires { vec_len made.old + length items.now ≤ vec_capacity made.old }
+    ensures scan { made.new.items ≡ made.old.items ++ scanned (O.combined op) first items.now }
+    ensures long { vec_len made.new ≡ vec_len made.old + length items.now }
+    ensures capacity { vec_capacity made.new ≡ vec_capacity made.old }
+{
+    let mut so_far = first;
     for &item in items {
         made.push_reserved(so_far);
         so_far = op.combine(so_far, item);

@@ -74,6 +74,29 @@ fn reduces_each_segment(rt: HostRuntime) -> Result<(), Fail> {
 }
 
 #[test]
+fn takes_segments_of_one_item(rt: HostRuntime) -> Result<(), Fail> {
+    // 65 of them, then an empty segment and one of two items.
+    let items = [7i64; 67];
+    let mut lengths = [1i64; 67];
+    lengths[65] = 0;
+    lengths[66] = 2;
+    let mut sums = [7i64; 67];
+    sums[65] = 0;
+    sums[66] = 14;
+    assert_eq!(rt;
+        reduced_z(&rt, rt.alloc(), ScanZ::Add, &items, &lengths)?.as_slice(),
+        sums.as_slice()
+    );
+    let mut before = [0i64; 67];
+    before[66] = 7;
+    assert_eq!(rt;
+        scanned_z(&rt, rt.alloc(), ScanZ::Add, &items, &lengths)?.as_slice(),
+        before.as_slice()
+    );
+    Ok(())
+}
+
+#[test]
 fn takes_the_ends_of_the_range(rt: HostRuntime) -> Result<(), Fail> {
     let ends = [i64::MIN, i64::MAX, i64::MAX];
     for (op, whole, unit) in [

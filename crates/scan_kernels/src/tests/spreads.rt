@@ -43,3 +43,30 @@ fn rises_by_the_stride_of_each_segment(rt: HostRuntime) -> Result<(), Fail> {
     assert_eq!(rt; meter.runs(), 3);
     Ok(())
 }
+
+#[test]
+fn takes_segments_of_one_item(rt: HostRuntime) -> Result<(), Fail> {
+    // 65 of them, then an empty segment and one of two items.
+    let mut lengths = [1i64; 67];
+    lengths[65] = 0;
+    lengths[66] = 2;
+    let segments = cut(rt.alloc(), &lengths)?;
+    assert!(rt; segments.count() == 67);
+    let mut meter = Meter::new();
+    let mut values = [5i64; 67];
+    values[65] = 6;
+    let made = distribute_z(&rt, rt.alloc(), &mut meter, &values, &segments);
+    assert!(rt; made.is_ok_and(|made| made.as_slice() == [5i64; 67].as_slice()));
+    let made = index(
+        &rt,
+        rt.alloc(),
+        &mut meter,
+        &[5i64; 67],
+        &[3i64; 67],
+        &segments,
+    );
+    let mut rising = [5i64; 67];
+    rising[66] = 8;
+    assert!(rt; made.is_ok_and(|made| made.as_slice() == rising.as_slice()));
+    Ok(())
+}

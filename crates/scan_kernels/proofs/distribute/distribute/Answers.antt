@@ -1,24 +1,31 @@
-use Rattle.std.proofs.Common.{arith, rules, sum, vec_len}
-use Rattle.scan_kernels.proofs.NextSegment.{sum-take_more, segment_within}
-use Rattle.scan_kernels.proofs.Paired.{distributed_more, distributed_all}
+use Rattle.std.proofs.Common.{arith, rules, ◌++◌, sum, length, take, drop, ap, sym, ◌∙◌, append_assoc, length-append}
+use Rattle.std.proofs.lemmas.List.Sums.{sum_by-append}
+use Rattle.std.specs.Slice.Iter.{chunks_rest}
+use Rattle.scan_kernels.specs.Distributed.{distributed}
+use Rattle.scan_kernels.proofs.Paired.{distributed-lengths-append}
 use Rattle.scan_kernels.proofs.distribute.distribute.Goals as goal
 
-pub repeat-requires : goal.repeat-requires
-repeat-requires g c =
-    let ls = c.args.lengths.now in
-    let j = c.loop-j.j in
-    let within = segment_within ls j (vec_len c.loop-j.made) (sum ls) c.loop-j-test.true c.loop-j.invariant.long (search rules) in
-    omega arith
-
-pub loop-j-preserved : goal.loop-j-preserved
-loop-j-preserved g c =
-    let ls = c.args.lengths.now in
-    let j = c.loop-j.j in
-    let more = distributed_more ls c.args.values.now j c.index-values-j.result c.loop-j-test.true c.requires.count in
-    let total = sum-take_more ls j c.loop-j-test.true in
-    record { made = cc; long = omega arith; room = omega arith }
-
-pub returns : goal.returns
-returns g c =
-    let all = distributed_all c.args.lengths.now c.args.values.now c.loop-j.j c.loop-j-test.false in
-    cc
+pub loop-block-preserved : goal.loop-block-preserved
+loop-block-preserved g c =
+    let block = c.in-Some.block.now in
+    let later = chunks_rest c.next.new.self in
+    let values = c.loop-block.rest.now in
+    let made = c.loop-block.made.items in
+    let front = take (length block) values in
+    let back = drop (length block) values in
+    let parts = c.in-Some.ensures.steps.1.0 in
+    let long = ap length parts ∙ length-append block later in
+    let total = ap sum parts ∙ sum_by-append (λ n. n) block later in
+    record {
+      can_next = search rules;
+      is_finite = tt;
+      count = omega arith;
+      made =
+          ap (λ ys. c.distribute_block.new.made.items ++ distributed later ys) c.split_at.ensures.back
+          ∙ ap (λ ys. ys ++ distributed later back) (c.distribute_block.ensures.distribute ∙ ap (λ ys. made ++ distributed block ys) c.split_at.ensures.front)
+          ∙ append_assoc made (distributed block front) (distributed later back)
+          ∙ ap (λ ys. made ++ ys) (sym (distributed-lengths-append block later values (omega arith)))
+          ∙ ap (λ ls. made ++ distributed ls values) (sym parts)
+          ∙ c.loop-block.invariant.made;
+      room = omega arith;
+    }

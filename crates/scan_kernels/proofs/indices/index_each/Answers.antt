@@ -1,22 +1,40 @@
-use Rattle.std.proofs.Common.{arith, rules, get_or, pos, SFits, w64}
-use Rattle.std.proofs.lemmas.Int.{to_z-of_z}
-use Rattle.scan_kernels.proofs.NextSegment.{sum-take_more}
-use Rattle.scan_kernels.proofs.Paired.{segmented_index_more, segmented_index_all}
+use Rattle.std.proofs.Common.{arith, rules, ◌++◌, sum, length, take, drop, ap, sym, ◌∙◌, append_assoc, length-append}
+use Rattle.std.proofs.lemmas.List.Sums.{sum_by-append}
+use Rattle.std.specs.Slice.Iter.{chunks_rest}
+use Rattle.scan_kernels.specs.Indexed.{segmented_index}
+use Rattle.scan_kernels.proofs.Paired.{segmented_index-lengths-append}
 use Rattle.scan_kernels.proofs.indices.index_each.Goals as goal
 
-pub loop-j-preserved : goal.loop-j-preserved
-loop-j-preserved c =
-    let ls = c.args.lengths.now in
-    let j = c.loop-j.j in
-    let more = segmented_index_more ls c.args.starts.now c.args.strides.now j c.loop-j-test.true c.requires.starts c.requires.strides in
-    let total = sum-take_more ls j c.loop-j-test.true in
-    let start_fits : SFits w64 (get_or c.args.starts.now j (pos 0)) = search rules in
-    let stride_fits : SFits w64 (get_or c.args.strides.now j (pos 0)) = search rules in
-    let start = to_z-of_z w64 (get_or c.args.starts.now j (pos 0)) start_fits in
-    let stride = to_z-of_z w64 (get_or c.args.strides.now j (pos 0)) stride_fits in
-    record { made = cc; long = omega arith; room = omega arith }
-
-pub returns : goal.returns
-returns c =
-    let all = segmented_index_all c.args.lengths.now c.args.starts.now c.args.strides.now c.loop-j.j c.loop-j-test.false in
-    cc
+pub loop-block-preserved : goal.loop-block-preserved
+loop-block-preserved c =
+    let block = c.in-Some.block.now in
+    let later = chunks_rest c.next.new.self in
+    let starts = c.loop-block.rest_starts.now in
+    let strides = c.loop-block.rest_strides.now in
+    let made = c.loop-block.made.items in
+    let n = length block in
+    let parts = c.in-Some.ensures.steps.1.0 in
+    let long = ap length parts ∙ length-append block later in
+    let total = ap sum parts ∙ sum_by-append (λ n. n) block later in
+    let front = segmented_index block (take n starts) (take n strides) in
+    let back = segmented_index later (drop n starts) (drop n strides) in
+    record {
+      can_next = search rules;
+      is_finite = tt;
+      starts = omega arith;
+      strides = omega arith;
+      within = (omega arith, omega arith);
+      made =
+          ap (λ ys. c.index_block.new.made.items ++ segmented_index later ys c.split_at-in-loop-block.result.1.now) c.split_at.ensures.back
+          ∙ ap (λ ys. c.index_block.new.made.items ++ segmented_index later (drop n starts) ys) c.split_at-in-loop-block.ensures.back
+          ∙ ap (λ ys. ys ++ back) (
+          c.index_block.ensures.index
+          ∙ ap (λ ys. made ++ segmented_index block ys c.split_at-in-loop-block.result.0.now) c.split_at.ensures.front
+          ∙ ap (λ ys. made ++ segmented_index block (take n starts) ys) c.split_at-in-loop-block.ensures.front
+          )
+          ∙ append_assoc made front back
+          ∙ ap (λ ys. made ++ ys) (sym (segmented_index-lengths-append block later starts strides (omega arith) (omega arith)))
+          ∙ ap (λ ls. made ++ segmented_index ls starts strides) (sym parts)
+          ∙ c.loop-block.invariant.made;
+      room = omega arith;
+    }

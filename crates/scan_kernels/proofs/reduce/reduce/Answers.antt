@@ -1,16 +1,35 @@
-use Rattle.std.proofs.Common.{arith}
-use Rattle.scan_kernels.proofs.NextSegment.{sum-take_more, segmented_reduce-take_more}
+use Rattle.std.proofs.Common.{arith, rules, ◌++◌, sum, length, drop, ap, sym, ◌∙◌, append_assoc, length-append}
+use Rattle.std.proofs.lemmas.List.{length-drop}
+use Rattle.std.proofs.lemmas.List.Sums.{sum_by-append}
+use Rattle.std.specs.Slice.Iter.{chunks_rest}
+use Rattle.scan_kernels.specs.Segmented.{segmented_reduce}
+use Rattle.scan_kernels.proofs.CutLists.{segmented_reduce-lengths-append}
 use Rattle.scan_kernels.proofs.reduce.reduce.Goals as goal
 
-pub loop-length-preserved : goal.loop-length-preserved
-loop-length-preserved g c =
+pub loop-block-preserved : goal.loop-block-preserved
+loop-block-preserved g c =
     let op = g.O.Combine.combined c.args.op in
     let u = g.O.Combine.unit_of c.args.op in
-    let xs = c.args.items.now in
-    let ls = c.args.lengths.now in
-    let i = c.loop-length.length-index in
-    let at = c.loop-length.at in
-    let place = c.loop-length.invariant.place in
-    let total = sum-take_more ls i c.loop-length-test.true in
-    let more = segmented_reduce-take_more op u ls i at xs c.loop-length-test.true place in
-    record { place = omega arith; made = cc; long = omega arith; room = omega arith }
+    let block = c.in-Some.block.now in
+    let later = chunks_rest c.next.new.self in
+    let xs = c.loop-block.rest.now in
+    let steps = c.in-Some.ensures.steps in
+    let parts = steps.1.0 in
+    let long = ap length parts ∙ length-append block later in
+    let total = ap sum parts ∙ sum_by-append (λ n. n) block later in
+    let left = ap length c.reduce_block-rest.ensures.rest ∙ length-drop (sum block) xs in
+    let whole = segmented_reduce-lengths-append op u block later xs in
+    let joined = append_assoc c.loop-block.made.items (segmented_reduce op u block xs) (segmented_reduce op u later (drop (sum block) xs)) in
+    record {
+      can_next = search rules;
+      is_finite = tt;
+      within = omega arith;
+      made =
+          ap (λ ys. c.reduce_block-rest.new.made.items ++ segmented_reduce op u later ys) c.reduce_block-rest.ensures.rest
+          ∙ ap (λ made. made ++ segmented_reduce op u later (drop (sum block) xs)) c.reduce_block-rest.ensures.reduce
+          ∙ joined
+          ∙ ap (λ ys. c.loop-block.made.items ++ ys) (sym whole)
+          ∙ ap (λ ls. c.loop-block.made.items ++ segmented_reduce op u ls xs) (sym parts)
+          ∙ c.loop-block.invariant.made;
+      room = omega arith;
+    }

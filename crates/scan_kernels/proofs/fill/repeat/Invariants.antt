@@ -1,5 +1,5 @@
 use Rattle.std.proofs.Common.{◌≡◌, ◌+◌, ◌++◌, replicate, vec_len, vec_capacity}
-use Rattle.scan_kernels.proofs.distribute.repeat.Given as goal
+use Rattle.scan_kernels.proofs.fill.repeat.Given as goal
 
 abbrev pub invariant-loop-copy : goal.invariant-loop-copy
 invariant-loop-copy g l = record {

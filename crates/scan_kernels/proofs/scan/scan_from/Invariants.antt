@@ -1,12 +1,12 @@
 use Rattle.std.proofs.Common.{◌≡◌, ◌+◌, ◌++◌, take, vec_len, vec_capacity}
 use Rattle.std.specs.List.{fold}
 use Rattle.scan_kernels.specs.Segmented.{scanned}
-use Rattle.scan_kernels.proofs.scan.scan_segment.Given as goal
+use Rattle.scan_kernels.proofs.scan.scan_from.Given as goal
 
 abbrev pub invariant-loop-item : goal.invariant-loop-item
 invariant-loop-item g l = record {
-  so_far : l.so_far ≡ fold (g.O.Combine.combined l.op) (g.O.Combine.unit_of l.op) (take l.item-index l.items);
-  made : l.made.items ≡ l.initial.made.items ++ scanned (g.O.Combine.combined l.op) (g.O.Combine.unit_of l.op) (take l.item-index l.items);
+  so_far : l.so_far ≡ fold (g.O.Combine.combined l.op) l.fn.first (take l.item-index l.items);
+  made : l.made.items ≡ l.initial.made.items ++ scanned (g.O.Combine.combined l.op) l.fn.first (take l.item-index l.items);
   long : vec_len l.made ≡ vec_len l.initial.made + l.item-index;
   room : vec_capacity l.made ≡ vec_capacity l.initial.made;
 }

@@ -1,0 +1,19 @@
+use Rattle.std.proofs.Common.{arith, ◌∷◌, [], take, append_assoc}
+use Rattle.std.specs.List.{fold}
+use Rattle.std.proofs.lemmas.List.{take_more}
+use Rattle.scan_kernels.specs.Segmented.{scanned}
+use Rattle.scan_kernels.proofs.Scanned.{scanned_push, fold_push}
+use Rattle.scan_kernels.proofs.scan.scan_from.Goals as goal
+
+pub loop-item-preserved : goal.loop-item-preserved
+loop-item-preserved g c =
+    let op = g.O.Combine.combined c.args.op in
+    let u = c.args.first in
+    let xs = c.args.items.now in
+    let i = c.loop-item.item-index in
+    let x = c.item-item.result in
+    let more = take_more xs i x c.loop-item-test.true in
+    let scan = scanned_push op u (take i xs) x in
+    let value = fold_push op u (take i xs) x in
+    let joined = append_assoc c.args.made.now.items (scanned op u (take i xs)) (fold op u (take i xs) ∷ []) in
+    record { so_far = cc; made = cc; long = omega arith; room = cc }
