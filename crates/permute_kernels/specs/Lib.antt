@@ -1,0 +1,4 @@
+pub mod Gathered
+pub mod Indices
+pub mod Packed
+pub mod Permuted

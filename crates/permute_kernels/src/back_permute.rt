@@ -1,0 +1,99 @@
+//! Items read from the places that an index holds, segment by segment. Want of memory leaves the meter as it was.
+
+ghost use Rattle.std.specs.Prelude.{◌≡◌, ◌+◌, ◌≤◌, ◌++◌, length, sum, vec_len, vec_capacity, All, IfOk, OnOk, OnErr};
+ghost use Rattle.scan_kernels.specs.Metering.{raised};
+ghost use Rattle.permute_kernels.specs.Indices.{IsPlaceOf, LieWithin};
+ghost use Rattle.permute_kernels.specs.Gathered.{gathered, segmented_gather};
+
+use crate::place::place_of;
+use scan_kernels::Meter;
+use segment_desc::{OutOfMemory, Segd};
+use std::alloc::{AllocError, Global};
+use std::thread::Threads;
+
+/// For each index in order the integer at its place, in one pass into a vector of its final size. Segment j of the index,
+/// by the lengths `by`, holds places of segment j of the integers, by the lengths `source`, as `in_range` tells. The
+/// segments are as many on both sides, and have the integers and the indices all together.
+pub fn back_permute_z(
+    _rt: &(impl Threads + Sync),
+    alloc: Global,
+    meter: &mut Meter,
+    items: &[i64],
+    source: &Segd,
+    index: &[i64],
+    by: &Segd,
+) -> Result<Vec<i64>, OutOfMemory>
+    requires source_total { sum source.now ≡ length items.now }
+    requires total { sum by.now ≡ length index.now }
+    requires counts { length source.now ≡ length by.now }
+    requires within { LieWithin source.now by.now index.now }
+    ensures gather { IfOk result (λ v. v.items ≡ segmented_gather source.now items.now by.now index.now) }
+    ensures counted { OnOk result (meter.new ≡ raised meter.old) }
+    ensures err { OnErr result (meter.new ≡ meter.old) }
+{
+    let made = gather_each(alloc, items, source.lengths(), index, by.lengths())?;
+    meter.raise();
+    Ok(made)
+}
+
+/// The same for truth values.
+pub fn back_permute_b(
+    _rt: &(impl Threads + Sync),
+    alloc: Global,
+    meter: &mut Meter,
+    flags: &[bool],
+    source: &Segd,
+    index: &[i64],
+    by: &Segd,
+) -> Result<Vec<bool>, OutOfMemory>
+    requires source_total { sum source.now ≡ length flags.now }
+    requires total { sum by.now ≡ length index.now }
+    requires counts { length source.now ≡ length by.now }
+    requires within { LieWithin source.now by.now index.now }
+    ensures gather { IfOk result (λ v. v.items ≡ segmented_gather source.now flags.now by.now index.now) }
+    ensures counted { OnOk result (meter.new ≡ raised meter.old) }
+    ensures err { OnErr result (meter.new ≡ meter.old) }
+{
+    let made = gather_each(alloc, flags, source.lengths(), index, by.lengths())?;
+    meter.raise();
+    Ok(made)
+}
+
+fn gather_each<T: Copy>(
+    alloc: Global,
+    items: &[T],
+    source: &[usize],
+    index: &[i64],
+    by: &[usize],
+) -> Result<Vec<T>, AllocError>
+    requires source_total { sum source.now ≡ length items.now }
+    requires total { sum by.now ≡ length index.now }
+    requires counts { length source.now ≡ length by.now }
+    requires within { LieWithin source.now by.now index.now }
+    ensures { IfOk result (λ v. v.items ≡ segmented_gather source.now items.now by.now index.now) }
+{
+    let mut made = Vec::with_capacity(alloc, index.len())?;
+    let mut from = 0;
+    let mut at = 0;
+    for j in 0..by.len() {
+        let source_end = from + source[j];
+        let end = at + by[j];
+        gather(&items[from..source_end], &index[at..end], &mut made);
+        from = source_end;
+        at = end;
+    }
+    Ok(made)
+}
+
+#[inline(always)]
+fn gather<T: Copy>(items: &[T], index: &[i64], made: &mut Vec<T>)
+    requires within { All (IsPlaceOf (length items.now)) index.now }
+    requires room { vec_len made.old + length index.now ≤ vec_capacity made.old }
+    ensures gather { made.new.items ≡ made.old.items ++ gathered index.now items.now }
+    ensures long { vec_len made.new ≡ vec_len made.old + length index.now }
+    ensures capacity { vec_capacity made.new ≡ vec_capacity made.old }
+{
+    for &held in index {
+        made.push_reserved(items[place_of(held)]);
+    }
+}

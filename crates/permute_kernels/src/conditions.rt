@@ -1,0 +1,89 @@
+//! Tests of indices, for a caller to make once before a kernel runs.
+
+ghost use Rattle.std.specs.Prelude.{◌≡◌, ◌↔◌, length, sum, replicate, false, All, IsTrue, IfOk};
+ghost use Rattle.permute_kernels.specs.Indices.{HoldsEachPlaceOnce, IsPlaceOf, LieWithin, PermuteSegments};
+
+use crate::place::{is_place, place_of};
+use segment_desc::{OutOfMemory, Segd};
+use std::alloc::{AllocError, Global};
+
+/// Whether each segment of the index holds each of its places once, as `permute_z` and `permute_b` ask. The segments have
+/// all the indices together. One pass over the index, and a byte for each of its items.
+pub fn is_permutation(alloc: Global, index: &[i64], segments: &Segd) -> Result<bool, OutOfMemory>
+    requires { sum segments.now ≡ length index.now }
+    ensures { IfOk result (λ b. IsTrue b ↔ PermuteSegments segments.now index.now) }
+{
+    Ok(permutes_each(alloc, index, segments.lengths())?)
+}
+
+fn permutes_each(alloc: Global, index: &[i64], lengths: &[usize]) -> Result<bool, AllocError>
+    requires { sum lengths.now ≡ length index.now }
+    ensures { IfOk result (λ b. IsTrue b ↔ PermuteSegments lengths.now index.now) }
+{
+    let mut seen = Vec::with_capacity(alloc, index.len())?;
+    let mut at = 0;
+    for &length in lengths {
+        let end = at + length;
+        seen.clear();
+        seen.resize(length, false)?;
+        if !holds_each_once(&index[at..end], seen.as_mut_slice()) {
+            return Ok(false);
+        }
+        at = end;
+    }
+    Ok(true)
+}
+
+#[inline(always)]
+fn holds_each_once(index: &[i64], seen: &mut [bool]) -> bool
+    requires { seen.old ≡ replicate (length index.now) false }
+    ensures { IsTrue result ↔ HoldsEachPlaceOnce index.now }
+{
+    for &held in index {
+        if !is_place(held, seen.len()) {
+            return false;
+        }
+        let place = place_of(held);
+        if seen[place] {
+            return false;
+        }
+        seen[place] = true;
+    }
+    true
+}
+
+/// Whether each index is a place of its segment of the source, as `back_permute_z` and `back_permute_b` ask. The index has
+/// the segments `by`, as many as the source. It takes no memory.
+pub fn in_range(index: &[i64], source: &Segd, by: &Segd) -> bool
+    requires counts { length source.now ≡ length by.now }
+    requires total { sum by.now ≡ length index.now }
+    ensures { IsTrue result ↔ LieWithin source.now by.now index.now }
+{
+    each_within(index, source.lengths(), by.lengths())
+}
+
+fn each_within(index: &[i64], source: &[usize], by: &[usize]) -> bool
+    requires counts { length source.now ≡ length by.now }
+    requires total { sum by.now ≡ length index.now }
+    ensures { IsTrue result ↔ LieWithin source.now by.now index.now }
+{
+    let mut at = 0;
+    for j in 0..by.len() {
+        let end = at + by[j];
+        if !are_places(&index[at..end], source[j]) {
+            return false;
+        }
+        at = end;
+    }
+    true
+}
+
+fn are_places(index: &[i64], length: usize) -> bool
+    ensures { IsTrue result ↔ All (IsPlaceOf length) index.now }
+{
+    let mut each = true;
+    for held in index {
+        each &= is_place(*held, length);
+    }
+    each
+}

@@ -1,0 +1,20 @@
+//! Kernels that move items to other places, or leave items out (Blelloch, Vector Models for Data-Parallel Computing,
+//! 1990): permute, back permute and pack. Each gives its plain definition for every length and every segment list, and
+//! raises a meter by one.
+//!
+//! They take the runtime and the allocator first, then the meter. What they ask of an index is what `is_permutation` and
+//! `in_range` answer, word for word.
+#![tactic(auto)]
+
+mod back_permute;
+mod conditions;
+mod pack;
+mod permute;
+mod place;
+#[cfg(test)]
+mod tests;
+
+pub use back_permute::{back_permute_b, back_permute_z};
+pub use conditions::{in_range, is_permutation};
+pub use pack::{pack_b, pack_z, packed_lengths};
+pub use permute::{permute_b, permute_z};

@@ -1,0 +1,104 @@
+//! Items kept by a flag, and how many each segment keeps. Want of memory leaves the meter as it was.
+
+ghost use Rattle.std.specs.Prelude.{◌≡◌, ◌<◌, ◌^◌, length, sum, IfOk, OnOk, OnErr};
+ghost use Rattle.scan_kernels.specs.Metering.{raised};
+ghost use Rattle.permute_kernels.specs.Packed.{number_set, numbers_set, packed};
+
+use scan_kernels::Meter;
+use segment_desc::{OutOfMemory, Segd};
+use std::alloc::{AllocError, Global};
+use std::thread::Threads;
+
+/// The integers whose flag is set, in order. There are as many flags as integers. A pass that counts the flags, and one
+/// into a vector of the final size and one place more.
+pub fn pack_z(
+    _rt: &(impl Threads + Sync),
+    alloc: Global,
+    meter: &mut Meter,
+    items: &[i64],
+    flags: &[bool],
+) -> Result<Vec<i64>, OutOfMemory>
+    requires { length flags.now ≡ length items.now }
+    ensures pack { IfOk result (λ v. v.items ≡ packed flags.now items.now) }
+    ensures counted { OnOk result (meter.new ≡ raised meter.old) }
+    ensures err { OnErr result (meter.new ≡ meter.old) }
+{
+    let made = kept(alloc, items, flags)?;
+    meter.raise();
+    Ok(made)
+}
+
+/// The same for truth values.
+pub fn pack_b(
+    _rt: &(impl Threads + Sync),
+    alloc: Global,
+    meter: &mut Meter,
+    truths: &[bool],
+    flags: &[bool],
+) -> Result<Vec<bool>, OutOfMemory>
+    requires { length flags.now ≡ length truths.now }
+    ensures pack { IfOk result (λ v. v.items ≡ packed flags.now truths.now) }
+    ensures counted { OnOk result (meter.new ≡ raised meter.old) }
+    ensures err { OnErr result (meter.new ≡ meter.old) }
+{
+    let made = kept(alloc, truths, flags)?;
+    meter.raise();
+    Ok(made)
+}
+
+/// How many flags are set in each segment, in one pass. The segments have all the flags together.
+pub fn packed_lengths(
+    _rt: &(impl Threads + Sync),
+    alloc: Global,
+    meter: &mut Meter,
+    flags: &[bool],
+    segments: &Segd,
+) -> Result<Vec<i64>, OutOfMemory>
+    requires { sum segments.now ≡ length flags.now }
+    ensures lengths { IfOk result (λ v. v.items ≡ numbers_set segments.now flags.now) }
+    ensures counted { OnOk result (meter.new ≡ raised meter.old) }
+    ensures err { OnErr result (meter.new ≡ meter.old) }
+{
+    let made = count_each(alloc, flags, segments.lengths())?;
+    meter.raise();
+    Ok(made)
+}
+
+// Each item is written, and stays if its flag is set, so that the loop has no branch.
+fn kept<T: Copy>(alloc: Global, items: &[T], flags: &[bool]) -> Result<Vec<T>, AllocError>
+    requires { length flags.now ≡ length items.now }
+    ensures { IfOk result (λ v. v.items ≡ packed flags.now items.now) }
+{
+    let mut made = Vec::with_capacity(alloc, count_set(flags) + 1)?;
+    for i in 0..items.len() {
+        let stays = made.len() + usize::from(flags[i]);
+        made.push_reserved(items[i]);
+        made.truncate(stays);
+    }
+    Ok(made)
+}
+
+fn count_each(alloc: Global, flags: &[bool], lengths: &[usize]) -> Result<Vec<i64>, AllocError>
+    requires total { sum lengths.now ≡ length flags.now }
+    requires small { length flags.now < 2 ^ 63 }
+    ensures { IfOk result (λ v. v.items ≡ numbers_set lengths.now flags.now) }
+{
+    let mut made = Vec::with_capacity(alloc, lengths.len())?;
+    let mut at = 0;
+    for &length in lengths {
+        let end = at + length;
+        made.push_reserved(count_set(&flags[at..end]) as i64);
+        at = end;
+    }
+    Ok(made)
+}
+
+fn count_set(flags: &[bool]) -> usize
+    ensures { result ≡ number_set flags.now }
+{
+    let mut number = 0;
+    for flag in flags {
+        number += usize::from(*flag);
+    }
+    number
+}

@@ -1,0 +1,103 @@
+//! Items moved to the places that an index holds, segment by segment. Want of memory leaves the meter as it was.
+
+ghost use Rattle.std.specs.Prelude.{◌≡◌, length, sum, IfOk, OnOk, OnErr};
+ghost use Rattle.scan_kernels.specs.Metering.{raised};
+ghost use Rattle.permute_kernels.specs.Indices.{HoldsEachPlaceOnce, PermuteSegments};
+ghost use Rattle.permute_kernels.specs.Permuted.{IsPermuted, IsPermutedBySegments, segmented_permute};
+
+use crate::place::place_of;
+use scan_kernels::Meter;
+use segment_desc::{OutOfMemory, Segd};
+use std::alloc::{AllocError, Global};
+use std::thread::Threads;
+
+/// In each segment, the integer at place i goes to the place that the index holds at i. There are as many indices as
+/// integers, the segments have them all together, and each segment of the index holds each of its places once, as
+/// `is_permutation` tells. A copy, and one pass that writes over it.
+pub fn permute_z(
+    _rt: &(impl Threads + Sync),
+    alloc: Global,
+    meter: &mut Meter,
+    items: &[i64],
+    index: &[i64],
+    segments: &Segd,
+) -> Result<Vec<i64>, OutOfMemory>
+    requires same_length { length index.now ≡ length items.now }
+    requires total { sum segments.now ≡ length index.now }
+    requires permutation { PermuteSegments segments.now index.now }
+    ensures permute { IfOk result (λ v. v.items ≡ segmented_permute segments.now index.now items.now) }
+    ensures places { IfOk result (λ v. IsPermutedBySegments segments.now index.now items.now v.items) }
+    ensures counted { OnOk result (meter.new ≡ raised meter.old) }
+    ensures err { OnErr result (meter.new ≡ meter.old) }
+{
+    let made = permuted(alloc, items, index, segments.lengths())?;
+    meter.raise();
+    Ok(made)
+}
+
+/// The same for truth values.
+pub fn permute_b(
+    _rt: &(impl Threads + Sync),
+    alloc: Global,
+    meter: &mut Meter,
+    flags: &[bool],
+    index: &[i64],
+    segments: &Segd,
+) -> Result<Vec<bool>, OutOfMemory>
+    requires same_length { length index.now ≡ length flags.now }
+    requires total { sum segments.now ≡ length index.now }
+    requires permutation { PermuteSegments segments.now index.now }
+    ensures permute { IfOk result (λ v. v.items ≡ segmented_permute segments.now index.now flags.now) }
+    ensures places { IfOk result (λ v. IsPermutedBySegments segments.now index.now flags.now v.items) }
+    ensures counted { OnOk result (meter.new ≡ raised meter.old) }
+    ensures err { OnErr result (meter.new ≡ meter.old) }
+{
+    let made = permuted(alloc, flags, index, segments.lengths())?;
+    meter.raise();
+    Ok(made)
+}
+
+fn permuted<T: Copy>(
+    alloc: Global,
+    items: &[T],
+    index: &[i64],
+    lengths: &[usize],
+) -> Result<Vec<T>, AllocError>
+    requires same_length { length index.now ≡ length items.now }
+    requires total { sum lengths.now ≡ length index.now }
+    requires permutation { PermuteSegments lengths.now index.now }
+    ensures permute { IfOk result (λ v. v.items ≡ segmented_permute lengths.now index.now items.now) }
+    ensures places { IfOk result (λ v. IsPermutedBySegments lengths.now index.now items.now v.items) }
+{
+    let mut made = Vec::from_slice(alloc, items)?;
+    scatter_each(items, index, lengths, made.as_mut_slice());
+    Ok(made)
+}
+
+fn scatter_each<T: Copy>(items: &[T], index: &[i64], lengths: &[usize], made: &mut [T])
+    requires same_length { length index.now ≡ length items.now }
+    requires room { length made.old ≡ length items.now }
+    requires total { sum lengths.now ≡ length index.now }
+    requires permutation { PermuteSegments lengths.now index.now }
+    ensures permute { made.new ≡ segmented_permute lengths.now index.now items.now }
+    ensures places { IsPermutedBySegments lengths.now index.now items.now made.new }
+{
+    let mut at = 0;
+    for &length in lengths {
+        let end = at + length;
+        scatter(&items[at..end], &index[at..end], &mut made[at..end]);
+        at = end;
+    }
+}
+
+#[inline(always)]
+fn scatter<T: Copy>(items: &[T], index: &[i64], made: &mut [T])
+    requires same_length { length index.now ≡ length items.now }
+    requires room { length made.old ≡ length items.now }
+    requires each_once { HoldsEachPlaceOnce index.now }
+    ensures { IsPermuted index.now items.now made.new }
+{
+    for i in 0..items.len() {
+        made[place_of(index[i])] = items[i];
+    }
+}

@@ -1,0 +1,20 @@
+//! The place that an index holds.
+
+ghost use Rattle.std.specs.Prelude.{◌≡◌, ◌↔◌, ◌≤ℤ◌, pos, IsTrue};
+ghost use Rattle.permute_kernels.specs.Indices.{IsPlaceOf};
+
+/// Whether a list of so many items has the place.
+pub fn is_place(index: i64, length: usize) -> bool
+    ensures { IsTrue result ↔ IsPlaceOf length index }
+{
+    0 <= index && index.unsigned_abs() < length as u64
+}
+
+/// The place as a number, where the index is not below 0.
+#[inline(always)]
+pub fn place_of(index: i64) -> usize
+    requires { pos 0 ≤ℤ index }
+    ensures { pos result ≡ index }
+{
+    index as usize
+}

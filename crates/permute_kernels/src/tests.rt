@@ -1,0 +1,14 @@
+//! Each public kernel and test of indices on small vectors, with the count of runs.
+
+mod indices;
+mod moves;
+mod packs;
+
+use segment_desc::Segd;
+use std::alloc::Global;
+use std::test::Fail;
+
+/// The segment list of these lengths.
+fn cut(alloc: Global, lengths: &[i64]) -> Result<Segd, Fail> {
+    Ok(Segd::from_lengths(alloc, lengths).map_err(|_| "no segments")?)
+}
