@@ -1,7 +1,9 @@
 pub mod Counting
 pub mod Gathering
+pub mod Joining
 pub mod Marking
 pub mod Packing
 pub mod Placing
 pub mod Segments
 pub mod Sending
+pub mod UndoneMoves

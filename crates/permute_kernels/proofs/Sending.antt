@@ -1,5 +1,5 @@
 -- What an index sends to each place: `permuted_is` (a list that has each item at its place is `permuted`, and no other
--- list has them), `segmented_permute_is` (segment by segment), `IsPermuted-permuted` (and there is one).
+-- list has them), `segmented_permute_is` (segment by segment), `sent_one` and `sent_item` (what a place gets).
 use Rattle.std.proofs.Common.{◌≡◌, ℕ, zero, suc, ◌+◌, ◌<◌, ◌≤◌, List, [], ◌∷◌, ◌++◌, length, take, drop, map, refl, sym, ap, ◌∙◌, get_or, sum, ℤ, pos, Bool, true, false, cond, Some, count_by, arith, inl, inr, subst}
 use Rattle.std.specs.List.{flat_map, range_with_len, slice_get}
 use Rattle.std.specs.Ordering.{int_eq}
@@ -61,7 +61,7 @@ held_somewhere p (z ∷ zs) h =
 
 module _ {X : Type 0} (index : List ℤ) (xs : List X) (once : HoldsEachPlaceOnce index) (same : length index ≡ length xs) where
   -- what is sent to the place that the index holds at i is item i
-  sent_item : (i p : ℕ) (x : X) → slice_get index i ≡ Some (pos p) → p < length index → slice_get xs i ≡ Some x → sent_to index xs p ≡ x ∷ []
+  pub sent_item : (i p : ℕ) (x : X) → slice_get index i ≡ Some (pos p) → p < length index → slice_get xs i ≡ Some x → sent_to index xs p ≡ x ∷ []
   sent_item i p x held lt here =
       let test : ℤ → Bool = λ z. int_eq z (pos p) in
       let within = slice_get_within index i (pos p) held in
@@ -70,7 +70,7 @@ module _ {X : Type 0} (index : List ℤ) (xs : List X) (once : HoldsEachPlaceOnc
       packed_one (map test index) xs i x (length-map index test ∙ same) (number_of_map test index ∙ once p lt) set here
 
   -- one item is sent to each place
-  sent_one : (p : ℕ) → p < length index → (i : ℕ) × (x : X) × (slice_get index i ≡ Some (pos p)) × (slice_get xs i ≡ Some x) × (sent_to index xs p ≡ x ∷ [])
+  pub sent_one : (p : ℕ) → p < length index → (i : ℕ) × (x : X) × (slice_get index i ≡ Some (pos p)) × (slice_get xs i ≡ Some x) × (sent_to index xs p ≡ x ∷ [])
   sent_one p lt =
       let one = once p lt in
       let held = held_somewhere p index (omega arith) in
@@ -83,7 +83,7 @@ module _ {X : Type 0} (index : List ℤ) (xs : List X) (once : HoldsEachPlaceOnc
 range_push : (k : ℕ) → range_with_len 0 (k + 1) ≡ range_with_len 0 k ++ k ∷ []
 range_push k = sym (map-id (range_with_len 0 (k + 1))) ∙ map-range_with_len_more (λ n. n) 0 k k (omega arith) ∙ ap (λ l. l ++ k ∷ []) (map-id (range_with_len 0 k))
 
-flat_map-range_push : {X : Type 0} (f : ℕ → List X) (k : ℕ) → flat_map f (range_with_len 0 (k + 1)) ≡ flat_map f (range_with_len 0 k) ++ f k
+pub flat_map-range_push : {X : Type 0} (f : ℕ → List X) (k : ℕ) → flat_map f (range_with_len 0 (k + 1)) ≡ flat_map f (range_with_len 0 k) ++ f k
 flat_map-range_push f k =
     ap (flat_map f) (range_push k) ∙ flat_map-append f (range_with_len 0 k) (k ∷ []) ∙ ap (λ l. flat_map f (range_with_len 0 k) ++ l) (append-nil (f k))
 

@@ -8,6 +8,7 @@
 
 mod back_permute;
 mod conditions;
+pub mod laws;
 mod pack;
 mod permute;
 mod place;

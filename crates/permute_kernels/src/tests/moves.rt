@@ -19,9 +19,10 @@ fn permuted_z(
     let segments = cut(alloc, lengths)?;
     assert!(rt; index.len() == items.len());
     assert!(rt; segments.total() == index.len());
-    let Ok(true) = is_permutation(alloc, index, &segments) else {
-        return Err("no permutation".into());
+    let Ok(permutes) = is_permutation(alloc, index, &segments) else {
+        return Err("refused".into());
     };
+    assert!(rt; permutes);
     let mut meter = Meter::new();
     let made = permute_z(rt, alloc, &mut meter, items, index, &segments).map_err(|_| "refused")?;
     assert_eq!(rt; meter.runs(), 1);
@@ -70,9 +71,10 @@ fn permutes_each_segment(rt: HostRuntime) -> Result<(), Fail> {
 fn permutes_truth_values(rt: HostRuntime) -> Result<(), Fail> {
     let segments = cut(rt.alloc(), &[2])?;
     assert!(rt; segments.total() == 2);
-    let Ok(true) = is_permutation(rt.alloc(), &[1, 0], &segments) else {
-        return Err("no permutation".into());
+    let Ok(permutes) = is_permutation(rt.alloc(), &[1, 0], &segments) else {
+        return Err("refused".into());
     };
+    assert!(rt; permutes);
     let mut meter = Meter::new();
     let made = permute_b(
         &rt,

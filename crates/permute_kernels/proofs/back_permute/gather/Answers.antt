@@ -1,7 +1,6 @@
-use Rattle.std.proofs.Common.{◌≡◌, ◌∷◌, ◌++◌, [], length, get_or, pos, sym, ap, ◌∙◌, append_assoc, take, arith, rules, w64, to_z, of_z}
+use Rattle.std.proofs.Common.{◌≡◌, length, get_or, pos, sym, ◌∙◌, arith, rules, w64, to_z, of_z}
 use Rattle.std.proofs.lemmas.Int.{ints}
-use Rattle.permute_kernels.specs.Gathered.{gathered}
-use Rattle.permute_kernels.proofs.Gathering.{gathered_more}
+use Rattle.permute_kernels.proofs.Gathering.{gathered_push}
 use Rattle.permute_kernels.proofs.Placing.{place_below}
 use Rattle.permute_kernels.proofs.back_permute.gather.Goals as goal
 
@@ -11,13 +10,11 @@ loop-held-preserved g c =
     let xs = c.args.items.now in
     let i = c.loop-held.held-index in
     let p = c.place_of.result in
-    let x = c.index-items-place_of.result in
     let item : to_z w64 (of_z w64 (get_or index i (pos 0))) ≡ get_or index i (pos 0) = search (rules, ints) in
     let here : get_or index i (pos 0) ≡ pos p = sym item ∙ sym c.place_of.ensures in
     let within = place_below (length xs) p (get_or index i (pos 0)) (c.requires.within i (pos 0) (omega arith)) here in
-    let more = gathered_more index xs i p x (omega arith) here within c.index-items-place_of.is in
     record {
-      made = c.push_reserved.ensures.items ∙ ap (λ l. l ++ x ∷ []) c.loop-held.invariant.made ∙ append_assoc c.args.made.now.items (gathered (take i index) xs) (x ∷ []) ∙ ap (λ l. c.args.made.now.items ++ l) (sym more);
+      made = gathered_push index xs c.args.made.now.items c.loop-held.made.items c.push_reserved.new.self.items i p c.index-items-place_of.result (omega arith) here within c.index-items-place_of.is c.loop-held.invariant.made c.push_reserved.ensures.items;
       long = omega arith;
       room = cc;
     }
