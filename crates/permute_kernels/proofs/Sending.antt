@@ -108,6 +108,7 @@ module _ {X : Type 0} (index : List ℤ) (xs ys : List X) (once : HoldsEachPlace
 
 module _ {X : Type 0} where
   pub segmented_permute_is : (ls : List ℕ) (index : List ℤ) (xs ys : List X) → PermuteSegments ls index → sum ls ≡ length index → length index ≡ length xs → IsPermutedBySegments ls index xs ys → ys ≡ segmented_permute ls index xs
+  unfolding PermuteSegments
   segmented_permute_is [] index xs ys each total same moved = nil_from_length ys (omega (arith, moved.0))
   segmented_permute_is (l ∷ ls) index xs ys each total same moved =
       let parts = sum_by-cons (λ (n : ℕ). n) l ls in

@@ -18,7 +18,7 @@ abbrev pub HoldsEachPlaceOnce : List ℤ → Type 0
 HoldsEachPlaceOnce index = (p : ℕ) → p < length index → times_held p index ≡ 1
 
 -- each segment of the index holds each of its places once
-abbrev pub PermuteSegments : List ℕ → List ℤ → Type 0
+unfoldable pub PermuteSegments : List ℕ → List ℤ → Type 0
 PermuteSegments ls index = All HoldsEachPlaceOnce (cut ls index)
 
 -- the segments of the index, whose lengths are ts, hold places of the segments of lengths ss, each of its own

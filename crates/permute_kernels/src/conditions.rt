@@ -16,6 +16,7 @@ pub fn is_permutation(alloc: Global, index: &[i64], segments: &Segd) -> Result<b
     Ok(permutes_each(alloc, index, segments.lengths())?)
 }
 
+#[tactic(auto, unfolding(crate::specs::Indices::PermuteSegments))]
 fn permutes_each(alloc: Global, index: &[i64], lengths: &[usize]) -> Result<bool, AllocError>
     requires { sum lengths.now ≡ length index.now }
     ensures { IfOk result (λ b. IsTrue b ↔ PermuteSegments lengths.now index.now) }

@@ -6,10 +6,12 @@ use Rattle.permute_kernels.proofs.Segments.{All_segment, All-cut_more}
 use Rattle.permute_kernels.proofs.conditions.permutes_each.Goals as goal
 
 pub returns-then-not-holds_each_once : goal.returns-then-not-holds_each_once
+unfolding PermuteSegments
 returns-then-not-holds_each_once c =
     ((λ h. absurd cc), λ h. subst IsTrue c.if-not-holds_each_once.true (c.holds_each_once.ensures.1 (All_segment HoldsEachPlaceOnce c.args.lengths.now c.loop-length.length-index c.loop-length.at c.args.index.now h c.loop-length-test.true c.loop-length.invariant.place)))
 
 pub loop-length-preserved : goal.loop-length-preserved
+unfolding PermuteSegments
 loop-length-preserved c =
     let ls = c.args.lengths.now in
     let i = c.loop-length.length-index in

@@ -1,12 +1,13 @@
 use Rattle.std.proofs.Common.{arith}
 use Rattle.scan_kernels.proofs.NextSegment.{sum-take_more}
-use Rattle.permute_kernels.specs.Indices.{HoldsEachPlaceOnce}
+use Rattle.permute_kernels.specs.Indices.{HoldsEachPlaceOnce, PermuteSegments}
 use Rattle.permute_kernels.proofs.Placing.{length_written, permuted_by_all, permuted_more}
 use Rattle.permute_kernels.proofs.Segments.{All_segment}
 use Rattle.permute_kernels.proofs.Sending.{segmented_permute_is}
 use Rattle.permute_kernels.proofs.permute.scatter_each.Goals as goal
 
 pub scatter-requires-clause-each_once : goal.scatter-requires-clause-each_once
+unfolding PermuteSegments
 scatter-requires-clause-each_once g c =
     All_segment HoldsEachPlaceOnce c.args.lengths.now c.loop-length.length-index c.loop-length.at c.args.index.now c.requires.permutation c.loop-length-test.true c.loop-length.invariant.place
 
