@@ -1,6 +1,6 @@
 //! Items kept by a flag, and how many each segment keeps. Want of memory leaves the meter as it was.
 
-ghost use Rattle.std.specs.Prelude.{◌≡◌, ◌<◌, ◌^◌, length, sum, IfOk, OnOk, OnErr};
+ghost use Rattle.std.specs.Prelude.{◌≡◌, ◌<◌, ◌≤◌, ◌^◌, length, sum, IfOk, OnOk, OnErr};
 ghost use Rattle.scan_kernels.specs.Metering.{raised};
 ghost use Rattle.permute_kernels.specs.Packed.{number_set, numbers_set, packed};
 
@@ -8,6 +8,9 @@ use scan_kernels::Meter;
 use segment_desc::{OutOfMemory, Segd};
 use std::alloc::{AllocError, Global};
 use std::thread::Threads;
+
+/// Sums of one byte count the flags of so many items.
+const BLOCK: usize = 128;
 
 /// The integers whose flag is set, in order. There are as many flags as integers. A pass that counts the flags, and one
 /// into a vector of the final size and one place more.
@@ -93,12 +96,28 @@ fn count_each(alloc: Global, flags: &[bool], lengths: &[usize]) -> Result<Vec<i6
     Ok(made)
 }
 
+// Sums of few bits go through more flags at a time.
 fn count_set(flags: &[bool]) -> usize
     ensures { result ≡ number_set flags.now }
 {
     let mut number = 0;
+    let mut rest = flags;
+    while rest.len() > BLOCK {
+        let (block, later) = rest.split_at(BLOCK);
+        number += usize::from(count_block(block));
+        rest = later;
+    }
+    number + usize::from(count_block(rest))
+}
+
+#[inline(always)]
+fn count_block(flags: &[bool]) -> u8
+    requires { length flags.now ≤ 128 }
+    ensures { result ≡ number_set flags.now }
+{
+    let mut number = 0;
     for flag in flags {
-        number += usize::from(*flag);
+        number += u8::from(*flag);
     }
     number
 }
