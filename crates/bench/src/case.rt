@@ -1,13 +1,12 @@
-//! The kernels that are timed, and over which segments. A kernel's condition is tested before it runs.
-
-ghost use Rattle.std.specs.Prelude.{◌≡◌, length, IfOk};
+//! The kernels that are timed, and over which segments.
 
 use crate::inputs::Inputs;
-use scan_kernels::{Meter, ScanZ, Z2, distribute_z, index, map2_z, reduce_z, scan_z};
-use segment_desc::{OutOfMemory, Segd};
+use crate::runs::{
+    Failure, run_add, run_distribute, run_gather, run_index, run_pack, run_reduce, run_scan,
+    run_scatter, run_test,
+};
+use scan_kernels::Meter;
 use std::alloc::Global;
-use std::io;
-use std::io::ErrorKind;
 use std::thread::Threads;
 
 /// A kernel over one of the inputs.
@@ -23,10 +22,16 @@ pub enum Case {
     SingleReduce,
     SingleDistribute,
     SingleIndex,
+    Gather,
+    Scatter,
+    IsPermutation,
+    Pack,
+    PackAll,
+    PackNone,
 }
 
 /// In the order of the rows.
-pub const CASES: [Case; 10] = [
+pub const CASES: [Case; 16] = [
     Case::Add,
     Case::Scan,
     Case::SegmentedScan,
@@ -37,98 +42,13 @@ pub const CASES: [Case; 10] = [
     Case::SingleReduce,
     Case::SingleDistribute,
     Case::SingleIndex,
+    Case::Gather,
+    Case::Scatter,
+    Case::IsPermutation,
+    Case::Pack,
+    Case::PackAll,
+    Case::PackNone,
 ];
-
-/// Why a kernel did not run. It is small, so that the times are those of the kernels.
-#[derive(Clone, Copy)]
-pub enum Failure {
-    /// The input does not meet the kernel's condition.
-    Uneven,
-    OutOfMemory,
-}
-
-impl From<OutOfMemory> for Failure {
-    fn from(_want: OutOfMemory) -> Failure {
-        Failure::OutOfMemory
-    }
-}
-
-impl From<Failure> for io::Error {
-    fn from(failure: Failure) -> io::Error {
-        io::Error::from(match failure {
-            Failure::Uneven => ErrorKind::InvalidInput,
-            Failure::OutOfMemory => ErrorKind::OutOfMemory,
-        })
-    }
-}
-
-fn run_add<R: Alloc<A = Global> + Threads + Sync>(
-    rt: &R,
-    meter: &mut Meter,
-    left: &[i64],
-    right: &[i64],
-) -> Result<Vec<i64>, Failure> {
-    if left.len() != right.len() {
-        return Err(Failure::Uneven);
-    }
-    Ok(map2_z(rt, rt.alloc(), meter, Z2::Add, left, right)?)
-}
-
-fn run_scan<R: Alloc<A = Global> + Threads + Sync>(
-    rt: &R,
-    meter: &mut Meter,
-    items: &[i64],
-    segments: &Segd,
-) -> Result<Vec<i64>, Failure> {
-    if segments.total() != items.len() {
-        return Err(Failure::Uneven);
-    }
-    Ok(scan_z(rt, rt.alloc(), meter, ScanZ::Add, items, segments)?)
-}
-
-fn run_reduce<R: Alloc<A = Global> + Threads + Sync>(
-    rt: &R,
-    meter: &mut Meter,
-    items: &[i64],
-    segments: &Segd,
-) -> Result<Vec<i64>, Failure> {
-    if segments.total() != items.len() {
-        return Err(Failure::Uneven);
-    }
-    Ok(reduce_z(rt, rt.alloc(), meter, ScanZ::Add, items, segments)?)
-}
-
-// The first of the values, one for each segment.
-fn values_for<'a>(values: &'a [i64], segments: &Segd) -> Result<&'a [i64], Failure>
-    ensures { IfOk result (λ taken. length taken.now ≡ length segments.now) }
-{
-    if values.len() < segments.count() {
-        return Err(Failure::Uneven);
-    }
-    Ok(values.split_at(segments.count()).0)
-}
-
-fn run_distribute<R: Alloc<A = Global> + Threads + Sync>(
-    rt: &R,
-    meter: &mut Meter,
-    values: &[i64],
-    segments: &Segd,
-) -> Result<Vec<i64>, Failure> {
-    let values = values_for(values, segments)?;
-    Ok(distribute_z(rt, rt.alloc(), meter, values, segments)?)
-}
-
-fn run_index<R: Alloc<A = Global> + Threads + Sync>(
-    rt: &R,
-    meter: &mut Meter,
-    starts: &[i64],
-    strides: &[i64],
-    segments: &Segd,
-) -> Result<Vec<i64>, Failure> {
-    let starts = values_for(starts, segments)?;
-    let strides = values_for(strides, segments)?;
-    Ok(index(rt, rt.alloc(), meter, starts, strides, segments)?)
-}
 
 impl Case {
     /// The name of the row.
@@ -144,6 +64,12 @@ impl Case {
             Case::SingleReduce => "segreduce-of-1",
             Case::SingleDistribute => "distribute-of-1",
             Case::SingleIndex => "index-of-1",
+            Case::Gather => "gather",
+            Case::Scatter => "scatter",
+            Case::IsPermutation => "is-permutation",
+            Case::Pack => "pack",
+            Case::PackAll => "pack-all",
+            Case::PackNone => "pack-none",
         }
     }
 
@@ -167,6 +93,12 @@ impl Case {
             Case::SingleReduce => run_reduce(rt, meter, left, &inputs.single),
             Case::SingleDistribute => run_distribute(rt, meter, left, &inputs.single),
             Case::SingleIndex => run_index(rt, meter, left, right, &inputs.single),
+            Case::Gather => run_gather(rt, meter, left, &inputs.index, &inputs.whole),
+            Case::Scatter => run_scatter(rt, meter, left, &inputs.index, &inputs.whole),
+            Case::IsPermutation => run_test(rt, &inputs.index, &inputs.whole),
+            Case::Pack => run_pack(rt, meter, left, &inputs.flags),
+            Case::PackAll => run_pack(rt, meter, left, &inputs.all),
+            Case::PackNone => run_pack(rt, meter, left, &inputs.none),
         }
     }
 }

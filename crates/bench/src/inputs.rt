@@ -16,6 +16,12 @@ pub struct Inputs {
     pub mixed: Segd,
     /// Segments of one item.
     pub single: Segd,
+    /// The places of all items in a random order.
+    pub index: Vec<i64>,
+    /// Random flags, and flags that are all set or all unset.
+    pub flags: Vec<bool>,
+    pub all: Vec<bool>,
+    pub none: Vec<bool>,
 }
 
 fn numbers(alloc: Global, random: &mut SplitMix64, size: u32) -> Result<Vec<i64>, AllocError> {
@@ -46,6 +52,26 @@ fn segments(
     Segd::from_lengths(alloc, &lengths).map_err(|_fault| AllocError)
 }
 
+fn shuffled(alloc: Global, random: &mut SplitMix64, size: u32) -> Result<Vec<i64>, AllocError> {
+    let mut places = Vec::with_capacity(alloc, size as usize)?;
+    for place in 0..size {
+        places.push(i64::from(place))?;
+    }
+    for i in 1..places.len() {
+        let other = (random.next_u64() % (i as u64 + 1)) as usize;
+        places.as_mut_slice().swap(i, other);
+    }
+    Ok(places)
+}
+
+fn flags(alloc: Global, random: &mut SplitMix64, size: u32) -> Result<Vec<bool>, AllocError> {
+    let mut flags = Vec::with_capacity(alloc, size as usize)?;
+    for _ in 0..size {
+        flags.push(random.next_u64() % 2 == 1)?;
+    }
+    Ok(flags)
+}
+
 impl Inputs {
     /// The inputs of `size` items.
     pub fn new(alloc: Global, size: u32) -> Result<Inputs, AllocError> {
@@ -56,6 +82,10 @@ impl Inputs {
             whole: Segd::from_lengths(alloc, &[i64::from(size)]).map_err(|_fault| AllocError)?,
             mixed: segments(alloc, &mut random, size, 100)?,
             single: segments(alloc, &mut random, size, 1)?,
+            index: shuffled(alloc, &mut random, size)?,
+            flags: flags(alloc, &mut random, size)?,
+            all: vec![in alloc; true; size as usize]?,
+            none: vec![in alloc; false; size as usize]?,
         })
     }
 }

@@ -5,6 +5,7 @@
 
 mod case;
 mod inputs;
+mod runs;
 mod timing;
 
 use case::{CASES, Case};
