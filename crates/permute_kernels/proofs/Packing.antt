@@ -1,13 +1,15 @@
--- Items that are kept by a flag: `packed_more` (one more item), `number_more`, `numbers_set_more` (one more segment).
-use Rattle.std.proofs.Common.{◌≡◌, ℕ, ◌+◌, ◌-◌, ◌<◌, ◌≤◌, List, [], ◌∷◌, ◌++◌, length, take, drop, map, refl, sym, ap, ◌∙◌, get_or, sum, zip, pos, Bool, true, false, cond, arith}
+-- Items that are kept by a flag: `compressed_more` (one more item), `block_more` (one more block), `numbers_set_more` (one
+-- more segment).
+use Rattle.std.proofs.Common.{◌≡◌, ℕ, ◌+◌, ◌-◌, ◌<◌, ◌≤◌, List, [], ◌∷◌, ◌++◌, length, set, take, drop, map, refl, sym, ap, ◌∙◌, get_or, sum, zip, pos, Bool, true, false, cond, add-zero, arith}
 use Rattle.std.specs.List.{filter}
-use Rattle.std.proofs.lemmas.List.{append-nil, map-append, take_all, take_at, length_push}
+use Rattle.std.proofs.lemmas.List.{append-nil, length-take-le, map-append, take-set, take_all, take_more_set}
+use Rattle.std.proofs.Math.Seq.{take-add}
 use Rattle.std.proofs.lemmas.List.Elements.{filter_more}
-use Rattle.std.proofs.lemmas.List.Sums.{sum_by_more}
 use Rattle.std.proofs.lemmas.Slice.Zip.{length-zip, get_or-zip}
 use mir.Val.{bool_byte}
 use Rattle.segment_desc.specs.Cut.{cut}
 use Rattle.permute_kernels.specs.Packed.{number_set, numbers_set, packed}
+use Rattle.permute_kernels.proofs.Joining.{packed-append}
 use Rattle.permute_kernels.proofs.Segments.{cut_more}
 
 -- what the first i pairs of a flag and an item keep
@@ -35,22 +37,35 @@ pub flag_number : (b : Bool) → (bool_byte b ≡ cond b 1 0) × (cond b 1 0 ≤
 flag_number true = (refl, omega arith)
 flag_number false = (refl, omega arith)
 
--- an item that is pushed stays where its flag is set
-stays : {X : Type 0} (b : Bool) (made : List X) (x : X) → take (length made + cond b 1 0) (made ++ x ∷ []) ≡ made ++ cond b (x ∷ []) []
-stays true made x = take_all (length made + 1) (made ++ x ∷ []) (omega (arith, length_push made x))
-stays false made x = take_at made (x ∷ []) (length made + 0) (omega arith) ∙ sym (append-nil made)
+-- an item that is written behind those that are kept stays where its flag is set
+stays : {X : Type 0} (b : Bool) (many : ℕ) (buffer : List X) (x : X) → many < length buffer → take (many + cond b 1 0) (set buffer many x) ≡ take many buffer ++ cond b (x ∷ []) []
+stays true many buffer x lt = take_more_set buffer many x lt
+stays false many buffer x lt = ap (λ k. take k (set buffer many x)) (add-zero many) ∙ take-set buffer many x ∙ sym (append-nil (take many buffer))
 
 module _ {X : Type 0} (flags : List Bool) (xs : List X) where
-  pub packed_more : (i n : ℕ) (made : List X) (x : X) → i < length flags → length flags ≡ length xs → x ≡ get_or xs i x → made ≡ kept_before flags xs i → n ≡ length made + cond (get_or flags i false) 1 0 → take n (made ++ x ∷ []) ≡ kept_before flags xs (i + 1)
-  packed_more i n made x lt same is so_far more =
+  pub compressed_more : (i many next : ℕ) (buffer : List X) (x : X) → i < length flags → length flags ≡ length xs → x ≡ get_or xs i x → many < length buffer → take many buffer ≡ kept_before flags xs i → next ≡ many + cond (get_or flags i false) 1 0 → take next (set buffer many x) ≡ kept_before flags xs (i + 1)
+  compressed_more i many next buffer x lt same is room so_far more =
       let flag = get_or flags i false in
-      ap (λ k. take k (made ++ x ∷ [])) more ∙ stays flag made x ∙ ap (λ l. l ++ cond flag (x ∷ []) []) so_far ∙ sym (kept_more flags xs i x lt same is)
+      ap (λ k. take k (set buffer many x)) more ∙ stays flag many buffer x room ∙ ap (λ l. l ++ cond flag (x ∷ []) []) so_far ∙ sym (kept_more flags xs i x lt same is)
 
   pub packed_all : (i : ℕ) → length flags ≤ i → kept_before flags xs i ≡ packed flags xs
   packed_all i past = let long = length-zip flags xs in ap (λ l. map (λ p. p.1) (filter (λ p. p.0) l)) (take_all i (zip flags xs) (omega arith))
 
-pub number_more : (flags : List Bool) (i : ℕ) → i < length flags → number_set (take (i + 1) flags) ≡ number_set (take i flags) + cond (get_or flags i false) 1 0
-number_more flags i lt = sum_by_more (λ b. cond b 1 0) flags i false lt
+-- one more block of flags and items
+module _ {X : Type 0} (flags : List Bool) (xs : List X) (at end : ℕ) where
+  pub block_more : (made : List X) → length flags ≡ length xs → at ≤ end → end ≤ length xs → made ≡ packed (take at flags) (take at xs) → made ++ packed (take (end - at) (drop at flags)) (take (end - at) (drop at xs)) ≡ packed (take end flags) (take end xs)
+  block_more made same later within so_far =
+      let whole : end ≡ at + (end - at) = omega arith in
+      let front = length-take-le at flags (omega arith) in
+      let also = length-take-le at xs (omega arith) in
+      ap (λ l. l ++ packed (take (end - at) (drop at flags)) (take (end - at) (drop at xs))) so_far
+      ∙ sym (packed-append (take at flags) (take (end - at) (drop at flags)) (take at xs) (take (end - at) (drop at xs)) (omega arith))
+      ∙ ap (λ fs. packed fs (take at xs ++ take (end - at) (drop at xs))) (sym (take-add at (end - at) flags))
+      ∙ ap (packed (take (at + (end - at)) flags)) (sym (take-add at (end - at) xs))
+      ∙ ap (λ k. packed (take k flags) (take k xs)) (sym whole)
+
+  pub packed_taken : length flags ≡ length xs → length xs ≤ at → packed (take at flags) (take at xs) ≡ packed flags xs
+  packed_taken same past = ap (λ fs. packed fs (take at xs)) (take_all at flags (omega arith)) ∙ ap (packed flags) (take_all at xs past)
 
 pub numbers_set_more : (ls : List ℕ) (i at : ℕ) (flags : List Bool) → i < length ls → at ≡ sum (take i ls) → numbers_set (take (i + 1) ls) flags ≡ numbers_set (take i ls) flags ++ pos (number_set (take (at + get_or ls i 0 - at) (drop at flags))) ∷ []
 numbers_set_more ls i at flags lt e =

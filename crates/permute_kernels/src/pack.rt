@@ -1,6 +1,6 @@
 //! Items kept by a flag, and how many each segment keeps. Want of memory leaves the meter as it was.
 
-ghost use Rattle.std.specs.Prelude.{◌≡◌, ◌<◌, ◌≤◌, ◌^◌, length, sum, IfOk, OnOk, OnErr};
+ghost use Rattle.std.specs.Prelude.{◌≡◌, ◌<◌, ◌≤◌, ◌^◌, ◌+◌, length, take, sum, IfOk, OnOk, OnErr};
 ghost use Rattle.scan_kernels.specs.Metering.{raised};
 ghost use Rattle.permute_kernels.specs.Packed.{number_set, numbers_set, packed};
 
@@ -9,11 +9,11 @@ use segment_desc::{OutOfMemory, Segd};
 use std::alloc::{AllocError, Global};
 use std::thread::Threads;
 
-/// Sums of one byte count the flags of so many items.
+/// Items are packed, and their flags counted by a byte, so many at a time.
 const BLOCK: usize = 128;
 
 /// The integers whose flag is set, in order. There are as many flags as integers. A pass that counts the flags, and one
-/// into a vector of the final size and one place more.
+/// into a vector of the final size.
 pub fn pack_z(
     _rt: &(impl Threads + Sync),
     alloc: Global,
@@ -26,7 +26,7 @@ pub fn pack_z(
     ensures counted { OnOk result (meter.new ≡ raised meter.old) }
     ensures err { OnErr result (meter.new ≡ meter.old) }
 {
-    let made = kept(alloc, items, flags)?;
+    let made = kept(alloc, items, flags, &mut [0; BLOCK])?;
     meter.raise();
     Ok(made)
 }
@@ -44,7 +44,7 @@ pub fn pack_b(
     ensures counted { OnOk result (meter.new ≡ raised meter.old) }
     ensures err { OnErr result (meter.new ≡ meter.old) }
 {
-    let made = kept(alloc, truths, flags)?;
+    let made = kept(alloc, truths, flags, &mut [false; BLOCK])?;
     meter.raise();
     Ok(made)
 }
@@ -67,18 +67,56 @@ pub fn packed_lengths(
     Ok(made)
 }
 
-// Each item is written, and stays if its flag is set, so that the loop has no branch.
-fn kept<T: Copy>(alloc: Global, items: &[T], flags: &[bool]) -> Result<Vec<T>, AllocError>
-    requires { length flags.now ≡ length items.now }
+// Block by block, through a buffer that stays near.
+#[inline(always)]
+fn kept<T: Copy>(
+    alloc: Global,
+    items: &[T],
+    flags: &[bool],
+    buffer: &mut [T],
+) -> Result<Vec<T>, AllocError>
+    requires same_length { length flags.now ≡ length items.now }
+    requires room { length buffer.old ≡ 128 }
     ensures { IfOk result (λ v. v.items ≡ packed flags.now items.now) }
 {
-    let mut made = Vec::with_capacity(alloc, count_set(flags) + 1)?;
-    for i in 0..items.len() {
-        let stays = made.len() + usize::from(flags[i]);
-        made.push_reserved(items[i]);
-        made.truncate(stays);
+    let mut made = Vec::with_capacity(alloc, count_set(flags))?;
+    let mut at = 0;
+    while at < items.len() {
+        let end = block_end(at, items.len());
+        let many = compress(&items[at..end], &flags[at..end], buffer);
+        made.extend_from_slice(&buffer[..many])?;
+        at = end;
     }
     Ok(made)
+}
+
+fn block_end(at: usize, length: usize) -> usize
+    requires { at < length }
+    ensures later { at < result }
+    ensures within { result ≤ length }
+    ensures short { result ≤ at + 128 }
+{
+    if length - at > BLOCK {
+        at + BLOCK
+    } else {
+        length
+    }
+}
+
+// Each item is written, and the next one over it unless its flag is set, so that the loop has no branch.
+#[inline(always)]
+fn compress<T: Copy>(items: &[T], flags: &[bool], buffer: &mut [T]) -> usize
+    requires same_length { length flags.now ≡ length items.now }
+    requires room { length items.now ≤ length buffer.old }
+    ensures kept { take result buffer.new ≡ packed flags.now items.now }
+    ensures few { result ≤ length items.now }
+{
+    let mut many = 0;
+    for i in 0..items.len() {
+        buffer[many] = items[i];
+        many += usize::from(flags[i]);
+    }
+    many
 }
 
 fn count_each(alloc: Global, flags: &[bool], lengths: &[usize]) -> Result<Vec<i64>, AllocError>

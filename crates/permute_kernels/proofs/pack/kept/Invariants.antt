@@ -1,11 +1,13 @@
-use Rattle.std.proofs.Common.{◌≡◌, ◌<◌, map, take, vec_len, vec_capacity, zip}
-use Rattle.std.specs.List.{filter}
-use Rattle.permute_kernels.specs.Packed.{number_set}
+use Rattle.std.proofs.Common.{◌≡◌, ◌≤◌, ◌-◌, length, take}
+use Rattle.permute_kernels.specs.Packed.{packed}
 use Rattle.permute_kernels.proofs.pack.kept.Given as goal
 
-abbrev pub invariant-loop-i : goal.invariant-loop-i
-invariant-loop-i g l = record {
-  made : l.made.items ≡ map (λ p. p.1) (filter (λ p. p.0) (take l.i (zip l.flags l.items)));
-  long : vec_len l.made ≡ number_set (take l.i l.flags);
-  room : number_set l.flags < vec_capacity l.made;
+abbrev pub invariant-loop-at : goal.invariant-loop-at
+invariant-loop-at g l = record {
+  made : l.made.items ≡ packed (take l.at l.flags) (take l.at l.items);
+  within : l.at ≤ length l.items;
+  room : length l.buffer ≡ 128;
 }
+
+abbrev pub decreases-loop-at : goal.decreases-loop-at
+decreases-loop-at g l = length l.items - l.at
