@@ -1,4 +1,4 @@
-use Rattle.std.proofs.Common.{◌≡◌, ◌++◌, ◌∙◌, ap, arith}
+use Rattle.std.proofs.Common.{◌++◌, ◌∙◌, ap, arith}
 use Rattle.permute_kernels.proofs.Packing.{block_more, packed_taken}
 use Rattle.permute_kernels.proofs.pack.kept.Goals as goal
 
