@@ -2,8 +2,8 @@
 
 use crate::inputs::Inputs;
 use crate::runs::{
-    Failure, run_add, run_distribute, run_gather, run_index, run_pack, run_reduce, run_scan,
-    run_scatter, run_test,
+    Failure, run_add, run_distribute, run_gather, run_in_range, run_index, run_is_permutation,
+    run_pack, run_reduce, run_scan, run_scatter,
 };
 use scan_kernels::Meter;
 use std::alloc::Global;
@@ -25,13 +25,14 @@ pub enum Case {
     Gather,
     Scatter,
     IsPermutation,
+    InRange,
     Pack,
     PackAll,
     PackNone,
 }
 
 /// In the order of the rows.
-pub const CASES: [Case; 16] = [
+pub const CASES: [Case; 17] = [
     Case::Add,
     Case::Scan,
     Case::SegmentedScan,
@@ -45,6 +46,7 @@ pub const CASES: [Case; 16] = [
     Case::Gather,
     Case::Scatter,
     Case::IsPermutation,
+    Case::InRange,
     Case::Pack,
     Case::PackAll,
     Case::PackNone,
@@ -67,6 +69,7 @@ impl Case {
             Case::Gather => "gather",
             Case::Scatter => "scatter",
             Case::IsPermutation => "is-permutation",
+            Case::InRange => "in-range",
             Case::Pack => "pack",
             Case::PackAll => "pack-all",
             Case::PackNone => "pack-none",
@@ -95,7 +98,8 @@ impl Case {
             Case::SingleIndex => run_index(rt, meter, left, right, &inputs.single),
             Case::Gather => run_gather(rt, meter, left, &inputs.index, &inputs.whole),
             Case::Scatter => run_scatter(rt, meter, left, &inputs.index, &inputs.whole),
-            Case::IsPermutation => run_test(rt, &inputs.index, &inputs.whole),
+            Case::IsPermutation => run_is_permutation(rt, &inputs.index, &inputs.whole),
+            Case::InRange => run_in_range(rt, &inputs.index, &inputs.whole),
             Case::Pack => run_pack(rt, meter, left, &inputs.flags),
             Case::PackAll => run_pack(rt, meter, left, &inputs.all),
             Case::PackNone => run_pack(rt, meter, left, &inputs.none),

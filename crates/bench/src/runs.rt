@@ -136,12 +136,25 @@ pub fn run_scatter<R: Alloc<A = Global> + Threads + Sync>(
     Ok(permute_z(rt, rt.alloc(), meter, items, index, whole)?)
 }
 
-pub fn run_test<R: Alloc<A = Global>>(
+// The test of an index alone.
+pub fn run_is_permutation<R: Alloc<A = Global>>(
     rt: &R,
     index: &[i64],
     whole: &Segd,
 ) -> Result<Vec<i64>, Failure> {
     if whole.total() != index.len() || !is_permutation(rt.alloc(), index, whole)? {
+        return Err(Failure::Uneven);
+    }
+    Ok(Vec::new(rt.alloc()))
+}
+
+// The test of an index alone.
+pub fn run_in_range<R: Alloc<A = Global>>(
+    rt: &R,
+    index: &[i64],
+    whole: &Segd,
+) -> Result<Vec<i64>, Failure> {
+    if whole.total() != index.len() || !in_range(index, whole, whole) {
         return Err(Failure::Uneven);
     }
     Ok(Vec::new(rt.alloc()))
