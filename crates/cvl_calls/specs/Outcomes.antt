@@ -1,44 +1,34 @@
--- What a call makes of its operands, and what is replied.
-use Rattle.std.specs.Prelude.{◌≡◌, ◌≤◌, ℤ, Bool, List, map, Option, Result, Ok, Err, IsOk, if◌then◌else◌}
-use Rattle.vector_memory.specs.Contents.{Content, content_of, size_of}
-use Rattle.vector_memory.specs.States.{State, value_at, item_limit}
-use Rattle.cvl_calls.specs.declared.fault.Fault.{Fault}
-use Rattle.cvl_calls.specs.declared.fault.Stop.{Stop}
-use Rattle.cvl_calls.specs.declared.fault.Stop.TheVariants as stops
-use Rattle.cvl_calls.specs.declared.reply.Reply.{Reply}
-use Rattle.cvl_calls.specs.declared.reply.Reply.TheVariants as replies
-use Rattle.cvl_calls.specs.declared.shapes.Product.{Product}
-use Rattle.cvl_calls.specs.declared.shapes.Product.TheVariants as products
-use Rattle.cvl_calls.specs.Tasks.{Argument, Vector, Number, Numbers, Truths}
+-- What a call makes of its operands.
+use Rattle.std.specs.Prelude.{◌≡◌, ℕ, ℤ, Bool, true, false, IsTrue, List, map, Option, Result, Ok, Err, if◌then◌else◌}
+use Rattle.vector_memory.specs.Contents.{Content, content_of}
+use Rattle.vector_memory.specs.States.{State, FitsLimits, value_at}
+use Rattle.cvl_text.specs.declared.fault.Fault.{Fault}
+use Rattle.cvl_text.specs.declared.fault.Fault.TheVariants.{BadIndex}
+use Rattle.cvl_text.specs.Answers.{Answer, answer_of}
+use Rattle.cvl_text.specs.Tasks.{Argument, Vector, Number, Truth, Numbers, Truths}
+use Rattle.scan_kernels.specs.Metering.{raised}
+use Rattle.cvl_calls.specs.declared.stop.Stop.{Stop}
+use Rattle.cvl_calls.specs.declared.stop.Stop.TheVariants as stops
+use Rattle.cvl_calls.specs.declared.product.Product.{Product}
+use Rattle.cvl_calls.specs.declared.product.Product.TheVariants as products
 
 -- an argument, with what the memory holds in place of a name
 pub data Operand : Type 0 where
   Held : Option Content → Operand
   NumberGiven : ℤ → Operand
+  TruthGiven : Bool → Operand
   NumbersGiven : List ℤ → Operand
   TruthsGiven : List Bool → Operand
 
 abbrev pub operand_of : State → Argument → Operand
 operand_of m (Vector n) = Held (value_at m n)
 operand_of m (Number x) = NumberGiven x
+operand_of m (Truth b) = TruthGiven b
 operand_of m (Numbers xs) = NumbersGiven xs
 operand_of m (Truths bs) = TruthsGiven bs
 
 abbrev pub operands_of : State → List Argument → List Operand
 operands_of m arguments = map (operand_of m) arguments
-
--- a reply, apart from where it lies
-pub data Answer : Type 0 where
-  Done : Answer
-  IntOf : ℤ → Answer
-  VectorOf : Content → Answer
-  FaultOf : Fault → Answer
-
-abbrev pub answer_of : Reply → Answer
-answer_of replies.Done = Done
-answer_of (replies.Int x) = IntOf x
-answer_of (replies.Vector v) = VectorOf (content_of v)
-answer_of (replies.Fault f) = FaultOf f
 
 -- what the operands alone decide: a value for the target, that the target goes, or a reply
 pub data Effect : Type 0 where
@@ -51,11 +41,11 @@ effect_of (products.Store v) = Stores (content_of v)
 effect_of products.Free = Frees
 effect_of (products.Reply r) = Answers (answer_of r)
 
--- a value to store has no more items than a value may have
-abbrev pub IsShortEffect : Effect → Type 0
-IsShortEffect (Stores v) = size_of v ≤ item_limit
-IsShortEffect Frees = Unit {0}
-IsShortEffect (Answers a) = Unit {0}
+-- a value to store keeps the limits of a value
+abbrev pub IsFittingEffect : Effect → Type 0
+IsFittingEffect (Stores v) = FitsLimits v
+IsFittingEffect Frees = Unit {0}
+IsFittingEffect (Answers a) = Unit {0}
 
 infixl 10 ◌>>=◌
 abbrev pub ◌>>=◌ : {A B : Type 0} → Result A Fault → (A → Result B Fault) → Result B Fault
@@ -70,14 +60,29 @@ abbrev pub viewed : {X Y : Type 0} → (X → Y) → Result X Fault → Result Y
 viewed view (Ok x) = Ok (view x)
 viewed view (Err f) = Err f
 
--- What a function returned, seen by view, is what the definition says; memory runs out only where there is no fault.
-abbrev pub Fails : {Y : Type 0} → Stop → Result Y Fault → Type 0
-Fails stops.OutOfMemory said = IsOk said
-Fails (stops.Fault f) said = said ≡ Err f
+-- Memory may run out where there is no fault, and, if the test of an index takes some, also where the index is bad.
+abbrev pub MayRunOut : {Y : Type 0} → Bool → Result Y Fault → Type 0
+MayRunOut tested (Ok y) = Unit {0}
+MayRunOut tested (Err BadIndex) = IsTrue tested
+MayRunOut tested (Err f) = ⊥
+
+-- What a function returned, seen by view, is what the definition says, unless memory ran out.
+abbrev pub Fails : {Y : Type 0} → Bool → Stop → Result Y Fault → Type 0
+Fails tested stops.OutOfMemory said = MayRunOut tested said
+Fails tested (stops.Fault f) said = said ≡ Err f
+
+abbrev pub GivesBy : {X Y : Type 0} → Bool → (X → Y) → Result X Stop → Result Y Fault → Type 0
+GivesBy tested view (Ok x) said = said ≡ Ok (view x)
+GivesBy tested view (Err e) said = Fails tested e said
 
 abbrev pub Gives : {X Y : Type 0} → (X → Y) → Result X Stop → Result Y Fault → Type 0
-Gives view (Ok x) said = said ≡ Ok (view x)
-Gives view (Err e) said = Fails e said
+Gives view r said = GivesBy false view r said
+
+-- A kernel ran where there is a result and the call runs one.
+abbrev pub Counts : {X E : Type 0} → Bool → Result X E → ℕ → ℕ → Type 0
+Counts true (Ok x) old new = new ≡ raised old
+Counts false (Ok x) old new = new ≡ old
+Counts runs (Err e) old new = new ≡ old
 
 -- what stopped a function is a fault, and no want of memory
 abbrev pub IsFault : Stop → Type 0

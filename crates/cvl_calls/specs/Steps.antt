@@ -1,35 +1,22 @@
 -- One step of the machine.
-use Rattle.std.specs.Prelude.{◌≡◌, List, [], ◌∷◌, Option, Some, None, Result, Ok, Err, IsOk}
+use Rattle.std.specs.Prelude.{◌≡◌, Option, Some, None, Result, Ok, Err}
 use Rattle.vector_memory.specs.declared.name.Name.{Name}
 use Rattle.vector_memory.specs.declared.memory.StoreFault.{StoreFault}
 use Rattle.vector_memory.specs.declared.memory.StoreFault.TheVariants as refusals
 use Rattle.vector_memory.specs.Contents.{Content}
 use Rattle.vector_memory.specs.States.{State, refusal, put, without}
-use Rattle.cvl_calls.specs.declared.fault.Fault.{Fault}
-use Rattle.cvl_calls.specs.declared.fault.Fault.TheVariants.{NoRoom, TooManyNames}
-use Rattle.cvl_calls.specs.declared.word.Word.{Word}
-use Rattle.cvl_calls.specs.declared.word.Word.TheVariants as words
-use Rattle.cvl_calls.specs.Tasks.{Task, reads}
-use Rattle.cvl_calls.specs.Outcomes.{Answer, Done, FaultOf, Effect, Stores, Frees, Answers, operands_of}
+use Rattle.cvl_text.specs.declared.fault.Fault.{Fault}
+use Rattle.cvl_text.specs.declared.fault.Fault.TheVariants.{NoRoom, TooManyNames}
+use Rattle.cvl_text.specs.Tasks.{Task, target}
+use Rattle.cvl_text.specs.Answers.{Answer, Done, FaultOf}
+use Rattle.cvl_calls.specs.Outcomes.{Effect, Stores, Frees, Answers, MayRunOut, operands_of}
+use Rattle.cvl_calls.specs.Runs.{tests_index}
 use Rattle.cvl_calls.specs.Work.{work}
 
 -- a memory and a reply
 pub record Stepped : Type 0 where
   pub memory : State
   pub answer : Answer
-
-abbrev pub head_of : List Name → Option Name
-head_of [] = None
-head_of (n ∷ ns) = Some n
-
--- the name before `=`, or the one that is freed
-abbrev pub target_by : Word → Option Name → List Name → Option Name
-target_by words.Free to names = head_of names
-target_by word to names = to
-
--- the name that a call writes or frees
-abbrev pub target : Task → Option Name
-target t = target_by t.word t.to (reads t)
 
 -- the reply to a store that is refused
 abbrev pub refused : State → Option StoreFault → State → Stepped
@@ -57,9 +44,9 @@ followed m to (Err fault) = record { memory = m; answer = FaultOf fault }
 abbrev pub stepped : State → Task → Stepped
 stepped m t = followed m (target t) (work t.word (operands_of m t.arguments))
 
--- What the call reads gives no fault: the one case in which a step may run out of memory.
-abbrev pub IsFaultless : State → Task → Type 0
-IsFaultless m t = IsOk (work t.word (operands_of m t.arguments))
+-- What the call reads gives no fault, or one behind a test that takes memory: the one case in which a step may run out of it.
+abbrev pub MayLackMemory : State → Task → Type 0
+MayLackMemory m t = MayRunOut (tests_index t.word) (work t.word (operands_of m t.arguments))
 
 -- An effect that stores a value for which the memory has room: the one case in which its doing may run out of memory.
 abbrev pub Grows : State → Option Name → Effect → Type 0

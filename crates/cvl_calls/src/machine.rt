@@ -1,20 +1,23 @@
 ghost use Rattle.std.specs.Prelude.{◌≡◌, ◌≤◌, None, IsOk, IfOk, OnErr};
-ghost use Rattle.vector_memory.specs.Contents.{content_of, size_of};
-ghost use Rattle.vector_memory.specs.States.{item_limit, refusal};
-ghost use Rattle.cvl_calls.specs.Tasks.{task_of};
-ghost use Rattle.cvl_calls.specs.Outcomes.{answer_of, effect_of, IsShortEffect};
-ghost use Rattle.cvl_calls.specs.Steps.{Grows, IsFaultless, applied, stepped, stored};
-ghost use Rattle.cvl_calls.specs.Work.{TakesNoMemory};
+ghost use Rattle.vector_memory.specs.Contents.{content_of};
+ghost use Rattle.vector_memory.specs.States.{FitsLimits, refusal};
+ghost use Rattle.cvl_text.specs.Answers.{answer_of};
+ghost use Rattle.cvl_text.specs.Tasks.{task_of};
+ghost use Rattle.cvl_calls.specs.Outcomes.{effect_of, IsFittingEffect};
+ghost use Rattle.cvl_calls.specs.Steps.{Grows, MayLackMemory, applied, stepped, stored};
+ghost use Rattle.cvl_calls.specs.Runs.{TakesNoMemory};
 
-use crate::call::{Call, target};
-use crate::fault::{Fault, Stop};
-use crate::reply::Reply;
-use crate::shapes::{Product, work};
+use crate::dispatch::work;
+use crate::product::Product;
+use crate::stop::Stop;
+use cvl_text::{Call, Fault, Reply, target};
+use scan_kernels::Meter;
 use std::alloc::Global;
+use std::thread::Threads;
 use vector_memory::{Memory, Name, OutOfMemory, StoreFault, Value};
 
 fn store(memory: &mut Memory, to: Name, value: Value) -> Result<Reply, OutOfMemory>
-    requires { size_of (content_of value) ≤ item_limit }
+    requires { FitsLimits (content_of value) }
     ensures ok { IfOk result (λ reply. stored memory.old to (content_of value)
         ≡ record { memory = memory.new; answer = answer_of reply }) }
     ensures grows { OnErr result (refusal memory.old to (content_of value) ≡ None) }
@@ -29,9 +32,9 @@ fn store(memory: &mut Memory, to: Name, value: Value) -> Result<Reply, OutOfMemo
 }
 
 /// Stores at the target what a call made of its operands, takes the target away, or hands the reply on. The value is one
-/// that `work` made: no longer than a value may be. A refused store is a fault, and it and a want of memory leave the memory as it was.
+/// that `work` made, within the limits of a value. A refused store is a fault, and it and a want of memory leave the memory as it was.
 pub fn apply(memory: &mut Memory, to: Option<Name>, product: Product) -> Result<Reply, OutOfMemory>
-    requires { IsShortEffect (effect_of product) }
+    requires { IsFittingEffect (effect_of product) }
     ensures ok { IfOk result (λ reply. applied memory.old to (effect_of product)
         ≡ record { memory = memory.new; answer = answer_of reply }) }
     ensures grows { OnErr result (Grows memory.old to (effect_of product)) }
@@ -53,16 +56,21 @@ pub fn apply(memory: &mut Memory, to: Option<Name>, product: Product) -> Result<
 }
 
 /// Runs a call on a memory: `work`, and then `apply`. A fault is a reply, and it and a want of memory leave the memory as it was.
-/// `fre_fov` and `len_fov` take no memory, and are always answered.
-pub fn step(alloc: Global, memory: &mut Memory, call: &Call) -> Result<Reply, OutOfMemory>
+/// `fre_fov`, `len_fov` and `ext_vuz` take no memory, and are always answered.
+pub fn step(
+    rt: &(impl Threads + Sync),
+    alloc: Global,
+    memory: &mut Memory,
+    call: &Call,
+) -> Result<Reply, OutOfMemory>
     ensures ok { IfOk result (λ reply. stepped memory.old (task_of call.now)
         ≡ record { memory = memory.new; answer = answer_of reply }) }
-    ensures faultless { OnErr result (IsFaultless memory.old (task_of call.now)) }
+    ensures lacks { OnErr result (MayLackMemory memory.old (task_of call.now)) }
     ensures answered { TakesNoMemory (task_of call.now).word → IsOk result }
     ensures err { OnErr result (memory.new ≡ memory.old) }
 {
     let _room = memory.room();
-    match work(alloc, memory, call) {
+    match work(rt, alloc, &mut Meter::new(), memory, call) {
         Ok(product) => apply(memory, target(call), product),
         Err(Stop::Fault(fault)) => Ok(Reply::Fault(fault)),
         Err(Stop::OutOfMemory) => Err(OutOfMemory),

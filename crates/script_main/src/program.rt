@@ -9,6 +9,7 @@ use crate::fault::RunFault;
 use crate::serial::run_serial;
 use crate::streams::{Sink, Source, write_all};
 use std::alloc::Global;
+use std::thread::Threads;
 use vector_memory::ROOM_LIMIT;
 
 /// What is written where the words ask for nothing that the program does.
@@ -74,6 +75,7 @@ fn status_of(ran: &Result<(), RunFault>) -> u8
 /// The arguments are judged before any input is read. 0: all was run and written; 2: a bad line, or bad arguments, for
 /// which the usage line is written; 3: want of memory; 4: a read or a write failed.
 pub fn run_program<R: Source, W: Sink>(
+    rt: &(impl Threads + Sync),
     alloc: Global,
     words: &[String],
     reader: &mut R,
@@ -94,6 +96,6 @@ pub fn run_program<R: Source, W: Sink>(
             Err(_) => 4,
         };
     };
-    let ran = run_serial(alloc, room, reader, writer);
+    let ran = run_serial(rt, alloc, room, reader, writer);
     status_of(&ran)
 }

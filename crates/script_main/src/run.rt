@@ -12,6 +12,7 @@ use crate::streams::{Failed, Sink, write_all};
 use memchr::memchr;
 use segment_desc::OutOfMemory;
 use std::alloc::Global;
+use std::thread::Threads;
 use vector_memory::Memory;
 
 /// How many bytes of replies are gathered before they are written.
@@ -105,7 +106,12 @@ impl Run {
     }
 
     /// Serves the line that these bytes end. Its reply waits.
-    fn finish_line(&mut self, alloc: Global, end: &[u8]) -> Result<(), LineFault>
+    fn finish_line(
+        &mut self,
+        rt: &(impl Threads + Sync),
+        alloc: Global,
+        end: &[u8],
+    ) -> Result<(), LineFault>
         ensures good { OnOk result (IsTrue (is_good (line_of (self.old.partial.items ++ end.now)))) }
         ensures memory { OnOk result (self.new.memory
             ≡ memory_after_line self.old.memory (line_of (self.old.partial.items ++ end.now))) }
@@ -117,12 +123,18 @@ impl Run {
         ensures err { OnErr result (self.new.waiting.items ≡ self.old.waiting.items) }
     {
         if self.partial.is_empty() {
-            return serve_line(alloc, &mut self.memory, &mut self.waiting, end);
+            return serve_line(rt, alloc, &mut self.memory, &mut self.waiting, end);
         }
         let Ok(()) = self.partial.extend_from_slice(end) else {
             return Err(LineFault::OutOfMemory);
         };
-        serve_line(alloc, &mut self.memory, &mut self.waiting, &self.partial)?;
+        serve_line(
+            rt,
+            alloc,
+            &mut self.memory,
+            &mut self.waiting,
+            &self.partial,
+        )?;
         self.partial.clear();
         Ok(())
     }
@@ -130,6 +142,7 @@ impl Run {
     /// Serves the line that these bytes end, and writes the replies that wait where they are many.
     fn serve_next<W: Sink>(
         &mut self,
+        rt: &(impl Threads + Sync),
         alloc: Global,
         end: &[u8],
         writer: &mut W,
@@ -152,7 +165,7 @@ impl Run {
             (W.written writer.old) (W.written writer.new)) }
         ensures failed { result ≡ Err RunFault.Write → W.failures writer.old < W.failures writer.new }
     {
-        if let Err(fault) = self.finish_line(alloc, end) {
+        if let Err(fault) = self.finish_line(rt, alloc, end) {
             return Err(stop(&mut self.waiting, self.number, fault, writer));
         }
         self.number += 1;
@@ -202,6 +215,7 @@ impl Run {
     /// Serves each line that ends in the text, writes the replies to them, and keeps what stands behind the last line feed.
     pub(crate) fn serve_block<W: Sink>(
         &mut self,
+        rt: &(impl Threads + Sync),
         alloc: Global,
         text: &[u8],
         writer: &mut W,
@@ -230,7 +244,7 @@ impl Run {
     {
         let mut rest = text;
         while let Some((end, after)) = split_line(rest) {
-            self.serve_next(alloc, end, writer)?;
+            self.serve_next(rt, alloc, end, writer)?;
             rest = after;
         }
         self.keep(rest, writer)
@@ -239,6 +253,7 @@ impl Run {
     /// Serves what stands behind the last line feed at the end of the input, and writes the reply to it.
     pub(crate) fn serve_last<W: Sink>(
         &mut self,
+        rt: &(impl Threads + Sync),
         alloc: Global,
         writer: &mut W,
     ) -> Result<(), RunFault>
@@ -256,7 +271,7 @@ impl Run {
         if self.partial.is_empty() {
             return Ok(());
         }
-        self.serve_next(alloc, &[], writer)?;
+        self.serve_next(rt, alloc, &[], writer)?;
         match flush(&mut self.waiting, writer) {
             Ok(()) => Ok(()),
             Err(_) => Err(RunFault::Write),

@@ -1,5 +1,8 @@
-ghost use Rattle.std.specs.Prelude.{◌≡◌, ◌≢◌, ◌↔◌, ◌<◌, ◌≤◌, ◌∷◌, ◌++◌, [], length, sum, map, pos, slice_index, OnErr, OnOk, IfOk, IsErrOf, min, ◌-◌, ◌^◌};
-ghost use Rattle.segment_desc.specs.Lengths.{IsWithinLimits, IsTooLong, HasNegative, MeasuresTooLong, has_negative, most, sizes};
+ghost use Rattle.std.specs.Prelude.{◌≡◌, ◌≢◌, ◌↔◌, ◌<◌, ◌≤◌, ◌∷◌, ◌++◌, [], length, sum, map, pos, slice_index, OnErr, OnOk, IfOk, IsErrOf, min, ◌-◌, ◌^◌, nat_eq};
+ghost use Rattle.std.proofs.Common.{rules};
+ghost use Rattle.std.specs.Cmp.Lexicographic.{pointwise};
+ghost use Rattle.std.specs.Cmp.Rules.{comparing};
+ghost use Rattle.segment_desc.specs.Lengths.{IsWithin, IsWithinLimits, IsTooLong, HasNegative, MeasuresPast, MeasuresTooLong, has_negative, most, sizes};
 
 use crate::memory::OutOfMemory;
 use std::alloc::{AllocError, Global};
@@ -35,7 +38,7 @@ impl From<AllocError> for SegFault {
 
 /// How a vector is cut into segments: the list of their lengths, some of which may be 0. There are at most `LIMIT` of
 /// them, and their sum is at most `LIMIT`.
-#[derive(Drop)]
+#[derive(Debug, Drop)]
 pub struct Segd {
     lengths: Vec<usize>,
     total: usize,
@@ -52,6 +55,20 @@ impl Model for Segd {
     ghost invariant = { λ s. (s.total ≡ sum s.lengths.items) × IsWithinLimits s.lengths.items };
 }
 
+impl PartialEq for Segd {
+    ghost eq = { pointwise nat_eq };
+
+    ghost laws = { Prim.search (comparing, rules) };
+
+    fn eq(&self, other: &Segd) -> bool {
+        self.lengths == other.lengths
+    }
+}
+
+impl Eq for Segd {
+    ghost laws = { Prim.search (comparing, rules) };
+}
+
 impl Segd {
     /// A segment list of these lengths. A length below 0 is told first, then too many of them or too great a sum.
     pub fn from_lengths(alloc: Global, lengths: &[i64]) -> Result<Segd, SegFault>
@@ -59,11 +76,27 @@ impl Segd {
         ensures negative { IsErrOf result SegFault.Negative ↔ HasNegative lengths.now }
         ensures too_long { IsErrOf result SegFault.TooLong ↔ MeasuresTooLong lengths.now }
     {
+        Segd::from_lengths_within(alloc, lengths, LIMIT)
+    }
+
+    /// A segment list of these lengths, where they are at most `limit` and so is their sum. A length below 0 is told first,
+    /// then too many of them or too great a sum, and neither takes memory.
+    pub fn from_lengths_within(
+        alloc: Global,
+        lengths: &[i64],
+        limit: usize,
+    ) -> Result<Segd, SegFault>
+        requires { limit ≤ most }
+        ensures ok { IfOk result (λ s. map pos s ≡ lengths.now) }
+        ensures within { IfOk result (λ s. IsWithin limit s) }
+        ensures negative { IsErrOf result SegFault.Negative ↔ HasNegative lengths.now }
+        ensures too_long { IsErrOf result SegFault.TooLong ↔ MeasuresPast limit lengths.now }
+    {
         if has_negative(lengths) {
             return Err(SegFault::Negative);
         }
         let total = total_size(lengths);
-        if LIMIT < lengths.len() || LIMIT < total {
+        if limit < lengths.len() || limit < total {
             return Err(SegFault::TooLong);
         }
         let mut kept = Vec::with_capacity(alloc, lengths.len())?;
@@ -91,6 +124,16 @@ impl Segd {
         Ok(Segd {
             lengths,
             total: length,
+        })
+    }
+
+    /// A copy of the segment list, in memory of its own.
+    pub fn try_copy(&self) -> Result<Segd, OutOfMemory>
+        ensures { IfOk result (λ copy. copy ≡ self.now) }
+    {
+        Ok(Segd {
+            lengths: self.lengths.clone()?,
+            total: self.total,
         })
     }
 

@@ -16,6 +16,25 @@ fn refuses_lengths_below_zero_and_past_the_limit(rt: HostRuntime) {
 }
 
 #[test]
+fn refuses_lengths_past_the_limit_of_the_caller(rt: HostRuntime) {
+    let made = |lengths: &[i64]| Segd::from_lengths_within(rt.alloc(), lengths, 3).err();
+    assert_eq!(rt; made(&[1, 0, 2]), None);
+    assert_eq!(rt; made(&[1, 0, 3]), Some(SegFault::TooLong));
+    assert_eq!(rt; made(&[0, 0, 0, 0]), Some(SegFault::TooLong));
+    assert_eq!(rt; made(&[4, -1]), Some(SegFault::Negative));
+}
+
+#[test]
+fn copies_its_lengths(rt: HostRuntime) -> Result<(), Fail> {
+    let segments = Segd::from_lengths(rt.alloc(), &[2, 0, 3]).map_err(|_| "refused")?;
+    let copy = segments.try_copy()?;
+    assert!(rt; copy == segments);
+    assert_eq!(rt; copy.lengths(), [2usize, 0, 3].as_slice());
+    assert_eq!(rt; copy.total(), 5);
+    Ok(())
+}
+
+#[test]
 fn lists_its_lengths(rt: HostRuntime) -> Result<(), Fail> {
     let segments = Segd::from_lengths(rt.alloc(), &[3, 0, 0, 2]).map_err(|_| "refused")?;
     assert_eq!(rt; segments.count(), 4);

@@ -1,4 +1,4 @@
-ghost use Rattle.std.specs.Prelude.{◌≡◌, ◌==◌, ℕ, ◌≤◌, None, Some, length, position, IfOk, IfErr, OnOk, OnErr, is_some};
+ghost use Rattle.std.specs.Prelude.{◌≡◌, ◌==◌, ℕ, ◌≤◌, None, Some, length, position, IfOk, IfErr, IfSome, OnOk, OnErr, is_some};
 ghost use Rattle.std.specs.Map.Iter.{ShowsInOrder, deref_pair};
 ghost use Rattle.std.specs.Option.{option_map, option_copied};
 ghost use Rattle.std.specs.Map.{keys_of};
@@ -14,7 +14,7 @@ use std::alloc::Global;
 use std::marker::Model;
 use thiserror::Error;
 
-/// The greatest number of items of a value.
+/// The greatest number of items of a value, and the greatest sum of the lengths of a segment list.
 pub const ITEM_LIMIT: usize = 1_048_576;
 
 /// The greatest room of a memory.
@@ -70,7 +70,7 @@ impl Model for Memory {
 }
 
 impl Memory {
-    ghost use Rattle.vector_memory.specs.States.{State, IsLawful, IsLawfulRoom, IsJudged, empty, value_at, cells_of, cells_after, refusal, put, without, contents, item_limit};
+    ghost use Rattle.vector_memory.specs.States.{State, IsLawful, IsLawfulRoom, IsJudged, empty, value_at, cells_of, cells_after, refusal, put, without, contents, item_limit, FitsLimits};
 
     /// A memory without values, for values of up to `room` items together: from 1 to `ROOM_LIMIT`.
     pub fn new(alloc: Global, room: u64) -> Result<Memory, OutOfMemory>
@@ -86,7 +86,8 @@ impl Memory {
 
     /// The value of a name, if it has one.
     pub fn get(&self, name: &Name) -> Option<&Value>
-        ensures { option_map content_of (option_copied result) ≡ value_at self.now name.now }
+        ensures value { option_map content_of (option_copied result) ≡ value_at self.now name.now }
+        ensures fits { IfSome result (λ value. FitsLimits (content_of value.now)) }
     {
         self.values.get(name)
     }
@@ -165,7 +166,7 @@ impl Memory {
     /// On a refusal nothing changes and the value is dropped: `NoRoom` where the room is passed, else `TooManyNames` where
     /// the name is new and there are `NAME_LIMIT` names. Memory is refused to a new name alone.
     pub fn store(&mut self, name: Name, value: Value) -> Result<(), StoreFault>
-        requires { size_of (content_of value) ≤ item_limit }
+        requires { FitsLimits (content_of value) }
         ensures judged { IsJudged result (refusal self.old name (content_of value)) }
         ensures new_only { result ≡ Err StoreFault.OutOfMemory → value_at self.old name ≡ None }
         ensures ok { OnOk result (self.new ≡ put self.old name (content_of value)) }

@@ -1,9 +1,14 @@
-//! Tests of the program as a whole: the worked rows of the profile, lines at the edges of the grammar, and readers and
-//! writers that fail at each place. They stand above the libraries, so that those are proved once.
+//! Tests of the program as a whole: the worked rows of the profile, every call with each of its faults, lines at the edges
+//! of the grammar, and readers and writers that fail at each place. They stand above the libraries, so that those are
+//! proved once.
 #![tactic(auto)]
 
 #[cfg(test)]
+mod every_call;
+#[cfg(test)]
 mod failures;
+#[cfg(test)]
+mod limits;
 #[cfg(test)]
 mod lines;
 #[cfg(test)]
@@ -12,3 +17,5 @@ mod program;
 mod rows;
 #[cfg(test)]
 mod streams;
+#[cfg(test)]
+mod vectors;

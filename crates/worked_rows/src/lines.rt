@@ -5,7 +5,7 @@ use std::test::Fail;
 
 #[test]
 fn bad_lines(rt: HostRuntime) -> Result<(), Fail> {
-    let bad: [&[u8]; 32] = [
+    let bad: [&[u8]; 41] = [
         b"0: a =",
         b"0: a = z 1 -",
         b"0: a = z 9223372036854775808",
@@ -34,7 +34,16 @@ fn bad_lines(rt: HostRuntime) -> Result<(), Fail> {
         b"0: a = alo_foz",
         b"0: a = alo_foz b",
         b"0: mov_fov a",
-        b"0: add_ruz a",
+        b"0: d = add_ruz a",
+        b"0: add_rez a s",
+        b"0: d = add_sez a",
+        b"0: d = sel_wuz f a",
+        b"0: d = bck_pez a s i",
+        b"0: d = dis_vuz T 3",
+        b"0: d = dis_vub 1 3",
+        b"0: d = ind_luz 1 2 n",
+        b"0: d = div_wub a b",
+        b"0: d = ext_vuz a 0",
         b"0: A = z 1",
         b"0: abcdefghijklmnopq = z 1",
         b"cvl 2",
@@ -47,7 +56,7 @@ fn bad_lines(rt: HostRuntime) -> Result<(), Fail> {
 
 #[test]
 fn good_lines(rt: HostRuntime) -> Result<(), Fail> {
-    let good: [(&[u8], &[u8]); 13] = [
+    let good: [(&[u8], &[u8]); 15] = [
         (b"\n\n", b""),
         (b"   \n", b""),
         (b"#", b""),
@@ -60,6 +69,11 @@ fn good_lines(rt: HostRuntime) -> Result<(), Fail> {
         (
             b"0: get z\n0: z = z 1\n0: get z\n",
             b"0 fault 1\n0 ok\n0 z 1\n",
+        ),
+        (b"0: add_ruz a", b"0 fault 1\n"),
+        (
+            b"0: bck_pez = b F\n0: get = dis_vub T 2\n0: get get\n0: ior_rub bck_pez\n",
+            b"0 ok\n0 ok\n0 b T T\n0 bool F\n",
         ),
         (
             b"0: z = z\n0: z = add_suz z\n0: get z\n",

@@ -2,7 +2,9 @@
 
 use crate::streams::{Full, Pieces, Short};
 use script_main::{ReadSource, RunFault, WriteSink, run_program, run_serial};
+use std::alloc::{Alloc, Global};
 use std::test::Fail;
+use std::thread::Threads;
 
 /// What the program wrote, and its exit status.
 #[derive(Drop)]
@@ -13,7 +15,7 @@ pub struct Ran {
 
 /// Runs the program with these arguments on a reader, with a writer that takes a number of bytes.
 pub fn run_on(
-    rt: &HostRuntime,
+    rt: &(impl Alloc<A = Global> + Threads + Sync),
     arguments: &[&str],
     reader: Pieces<'_>,
     mut writer: Short,
@@ -24,7 +26,7 @@ pub fn run_on(
     }
     let mut source = ReadSource::new(reader);
     let mut sink = WriteSink::new(&mut writer);
-    let status = run_program(rt.alloc(), &words, &mut source, &mut sink);
+    let status = run_program(rt, rt.alloc(), &words, &mut source, &mut sink);
     Ok(Ran {
         text: writer.taken,
         status,
@@ -32,7 +34,7 @@ pub fn run_on(
 }
 
 /// A writer that takes this many bytes, some at a time, and then fails.
-pub fn writer(rt: &HostRuntime, step: usize, left: usize, full: Full) -> Short {
+pub fn writer(rt: &impl Alloc<A = Global>, step: usize, left: usize, full: Full) -> Short {
     Short {
         taken: Vec::new(rt.alloc()),
         step,
@@ -42,7 +44,12 @@ pub fn writer(rt: &HostRuntime, step: usize, left: usize, full: Full) -> Short {
 }
 
 /// Runs the program on a script, with nothing that fails.
-pub fn run(rt: &HostRuntime, arguments: &[&str], script: &[u8], step: usize) -> Result<Ran, Fail> {
+pub fn run(
+    rt: &(impl Alloc<A = Global> + Threads + Sync),
+    arguments: &[&str],
+    script: &[u8],
+    step: usize,
+) -> Result<Ran, Fail> {
     let reader = Pieces {
         bytes: script,
         step,
@@ -58,7 +65,7 @@ pub fn run(rt: &HostRuntime, arguments: &[&str], script: &[u8], step: usize) -> 
 
 /// Whether the program answers a script with this text and this status, however the script is cut by reads.
 pub fn answers(
-    rt: &HostRuntime,
+    rt: &(impl Alloc<A = Global> + Threads + Sync),
     arguments: &[&str],
     script: &[u8],
     text: &[u8],
@@ -70,6 +77,23 @@ pub fn answers(
         good = good && ran.text.as_slice() == text && ran.status == status;
     }
     Ok(good)
+}
+
+/// Whether the program answers so many first lines of a script with `ok`, and the others with this text.
+pub fn ends_with(
+    rt: &(impl Alloc<A = Global> + Threads + Sync),
+    arguments: &[&str],
+    script: &str,
+    oks: usize,
+    text: &str,
+) -> Result<bool, Fail> {
+    let mut whole = Vec::new(rt.alloc());
+    for _ in 0..oks {
+        whole.extend_from_slice(b"0 ok\n")?;
+    }
+    whole.extend_from_slice(text.as_bytes())?;
+    let ran = run(rt, arguments, script.as_bytes(), 100_000)?;
+    Ok(ran.text == whole && ran.status == 0)
 }
 
 const USAGE: &[u8] = b"usage: cvl serial|threads [room]\n";
@@ -127,7 +151,7 @@ fn tells_how_a_run_ended(rt: HostRuntime) -> Result<(), Fail> {
             fails,
         });
         let mut sink = WriteSink::new(writer(&rt, 1000, left, Full::Fails));
-        assert!(rt; run_serial(rt.alloc(), 4, &mut source, &mut sink) == end);
+        assert!(rt; run_serial(&rt, rt.alloc(), 4, &mut source, &mut sink) == end);
     }
     Ok(())
 }

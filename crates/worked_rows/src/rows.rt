@@ -99,6 +99,100 @@ fn moves_and_measures_values(rt: HostRuntime) -> Result<(), Fail> {
     Ok(())
 }
 
+#[test]
+fn scans_and_reduces(rt: HostRuntime) -> Result<(), Fail> {
+    let script = b"0: a = z 3 1 4\n0: s = add_suz a\n0: get s\n0: add_ruz a\n";
+    let text = b"0 ok\n0 ok\n0 z 0 3 4\n0 int 8\n";
+    assert!(rt; answers(&rt, &["serial"], script, text, 0)?);
+    Ok(())
+}
+
+#[test]
+fn scans_and_reduces_segments(rt: HostRuntime) -> Result<(), Fail> {
+    let script =
+        b"0: l = z 2 0 3\n0: s = mke_fov l\n0: a = z 1 2 3 4 5\n0: p = add_sez a s\n0: r = add_rez a s\n\
+        0: get p\n0: get r\n0: get s\n";
+    let text = b"0 ok\n0 ok\n0 ok\n0 ok\n0 ok\n0 z 0 1 0 3 7\n0 z 3 0 12\n0 s 2 0 3\n";
+    assert!(rt; answers(&rt, &["serial"], script, text, 0)?);
+    Ok(())
+}
+
+#[test]
+fn reduces_an_empty_vector_to_the_unit(rt: HostRuntime) -> Result<(), Fail> {
+    let script = b"0: e = z\n0: max_ruz e\n0: p = max_suz e\n0: get p\n0: len_fov p\n";
+    let text = b"0 ok\n0 int -9223372036854775808\n0 ok\n0 z\n0 int 0\n";
+    assert!(rt; answers(&rt, &["serial"], script, text, 0)?);
+    Ok(())
+}
+
+#[test]
+fn wraps_at_the_greatest_and_the_least(rt: HostRuntime) -> Result<(), Fail> {
+    let script =
+        b"0: a = z 9223372036854775807\n0: o = z 1\n0: c = add_wuz a o\n0: n = z -1\n0: d = div_wuz c n\n\
+        0: m = mod_wuz c n\n0: get c\n0: get d\n0: get m\n";
+    let text =
+        b"0 ok\n0 ok\n0 ok\n0 ok\n0 ok\n0 ok\n0 z -9223372036854775808\n0 z -9223372036854775808\n0 z 0\n";
+    assert!(rt; answers(&rt, &["serial"], script, text, 0)?);
+    Ok(())
+}
+
+#[test]
+fn permutes_by_a_permutation_alone(rt: HostRuntime) -> Result<(), Fail> {
+    let script =
+        b"0: a = z 10 20 30\n0: i = z 2 0 1\n0: p = smp_puz a i\n0: get p\n0: j = z 0 0 1\n\
+        0: p = smp_puz a j\n";
+    let text = b"0 ok\n0 ok\n0 ok\n0 z 20 30 10\n0 ok\n0 fault 5\n";
+    assert!(rt; answers(&rt, &["serial"], script, text, 0)?);
+    Ok(())
+}
+
+#[test]
+fn permutes_within_segments(rt: HostRuntime) -> Result<(), Fail> {
+    let script =
+        b"0: l = z 2 1\n0: s = mke_fov l\n0: a = z 7 8 9\n0: i = z 1 0 0\n0: p = smp_pez a i s\n0: get p\n";
+    let text = b"0 ok\n0 ok\n0 ok\n0 ok\n0 ok\n0 z 8 7 9\n";
+    assert!(rt; answers(&rt, &["serial"], script, text, 0)?);
+    Ok(())
+}
+
+#[test]
+fn packs_and_counts_what_is_kept(rt: HostRuntime) -> Result<(), Fail> {
+    let script = b"0: a = z 5 6 7 8\n0: f = b T F F T\n0: p = pck_puz a f\n0: get p\n0: l = z 3 1\n\
+        0: s = mke_fov l\n0: q = pkl_leb f s\n0: get q\n";
+    let text = b"0 ok\n0 ok\n0 ok\n0 z 5 8\n0 ok\n0 ok\n0 ok\n0 z 1 1\n";
+    assert!(rt; answers(&rt, &["serial"], script, text, 0)?);
+    Ok(())
+}
+
+#[test]
+fn shifts_up_to_63(rt: HostRuntime) -> Result<(), Fail> {
+    let script =
+        b"0: a = z -5 1\n0: n = z 1 63\n0: c = rsh_wuz a n\n0: d = lsh_wuz a n\n0: get c\n0: get d\n\
+        0: n = z 1 64\n0: c = lsh_wuz a n\n";
+    let text = b"0 ok\n0 ok\n0 ok\n0 ok\n0 z -3 0\n0 z -10 -9223372036854775808\n0 ok\n0 fault 7\n";
+    assert!(rt; answers(&rt, &["serial"], script, text, 0)?);
+    Ok(())
+}
+
+#[test]
+fn makes_reads_and_replaces_items(rt: HostRuntime) -> Result<(), Fail> {
+    let script =
+        b"0: d = dis_vuz 7 3\n0: i = ind_luz 5 -2 4\n0: get d\n0: get i\n0: ext_vuz i 3\n0: ext_vuz i 4\n\
+        0: r = rep_vuz d 1 9\n0: get r\n";
+    let text = b"0 ok\n0 ok\n0 z 7 7 7\n0 z 5 3 1 -1\n0 int -1\n0 fault 5\n0 ok\n0 z 7 9 7\n";
+    assert!(rt; answers(&rt, &["serial"], script, text, 0)?);
+    Ok(())
+}
+
+#[test]
+fn divides_towards_zero(rt: HostRuntime) -> Result<(), Fail> {
+    let script =
+        b"0: a = z -7\n0: b = z 2\n0: q = div_wuz a b\n0: r = mod_wuz a b\n0: get q\n0: get r\n";
+    let text = b"0 ok\n0 ok\n0 ok\n0 ok\n0 z -3\n0 z -1\n";
+    assert!(rt; answers(&rt, &["serial"], script, text, 0)?);
+    Ok(())
+}
+
 /// Room 4,096 is full with as many names: room is judged before names, and a name that is freed makes room for another.
 #[test]
 fn frees_a_name_among_many(rt: HostRuntime) -> Result<(), Fail> {

@@ -1,0 +1,13 @@
+use Rattle.std.proofs.Common.{Bool, sym, ap, ◌∙◌}
+use Rattle.cvl_text.specs.declared.fault.Fault.TheVariants.{BadIndex}
+use Rattle.cvl_calls.specs.Outcomes.{check}
+use Rattle.cvl_calls.proofs.Tested.{lies_within-tested}
+use Rattle.cvl_calls.proofs.conditions.lies_within.Goals as goal
+
+pub returns-then-in_range-clause-fault : goal.returns-then-in_range-clause-fault
+returns-then-in_range-clause-fault c =
+    ap (λ (b : Bool). check b BadIndex) (sym c.if-in_range.true ∙ lies_within-tested c.in_range.result c.args.source.now c.args.by.now c.args.places.now c.requires.counts c.in_range.ensures)
+
+pub returns-else-in_range-clause-fault : goal.returns-else-in_range-clause-fault
+returns-else-in_range-clause-fault c =
+    ap (λ (b : Bool). check b BadIndex) (sym c.if-in_range.false ∙ lies_within-tested c.in_range.result c.args.source.now c.args.by.now c.args.places.now c.requires.counts c.in_range.ensures)

@@ -1,0 +1,130 @@
+//! What the shapes of calls ask of their operands together, each with its fault where it does not hold. The tests of second
+//! operands and of indices are those that the kernels offer, and their answers are what the kernels want to know.
+
+ghost use Rattle.std.specs.Prelude.{[], ◌≡◌, ◌∷◌, length, sum, true, All, IfOk, OnOk};
+ghost use Rattle.std.specs.List.{list_all};
+ghost use Rattle.scan_kernels.specs.IntegerOps.{IsAllowed, IsDivisor, IsShift};
+ghost use Rattle.permute_kernels.specs.Indices.{LieWithin, PermuteSegments};
+ghost use Rattle.cvl_calls.specs.Outcomes.{GivesBy, check};
+ghost use Rattle.cvl_calls.specs.Conditions.{has_all, has_each, is_divisor, is_shift, lies_within, permutes, same_length, seconds};
+
+use crate::stop::Stop;
+use cvl_text::{Fault, Z2};
+use permute_kernels::{in_range, is_permutation};
+use scan_kernels::{divisors_ok, shifts_ok};
+use segment_desc::{OutOfMemory, Segd};
+use std::alloc::Global;
+
+/// Two vectors are as long as one another.
+pub(crate) fn same_length(m: usize, n: usize) -> Result<(), Fault>
+    ensures fault { result ≡ same_length m n }
+    ensures holds { OnOk result (m ≡ n) }
+{
+    if m == n {
+        Ok(())
+    } else {
+        Err(Fault::WrongLength)
+    }
+}
+
+/// The segments have all items together.
+pub(crate) fn has_all(segments: &Segd, items: usize) -> Result<(), Fault>
+    ensures fault { result ≡ has_all segments.now items }
+    ensures holds { OnOk result (sum segments.now ≡ items) }
+{
+    if segments.total() == items {
+        Ok(())
+    } else {
+        Err(Fault::BadSegments)
+    }
+}
+
+/// There is a segment for each item.
+pub(crate) fn has_each(segments: &Segd, items: usize) -> Result<(), Fault>
+    ensures fault { result ≡ has_each segments.now items }
+    ensures holds { OnOk result (length segments.now ≡ items) }
+{
+    if segments.count() == items {
+        Ok(())
+    } else {
+        Err(Fault::BadSegments)
+    }
+}
+
+/// The operation takes each of the second operands.
+pub(crate) fn seconds(op: Z2, ys: &[i64]) -> Result<(), Fault>
+    ensures fault { result ≡ seconds op ys.now }
+    ensures holds { OnOk result (All (IsAllowed op) ys.now) }
+{
+    match op {
+        Z2::Div => divisors(ys),
+        Z2::Mod => divisors(ys),
+        Z2::Lsh => shifts(ys),
+        Z2::Rsh => shifts(ys),
+        Z2::Add => Ok(()),
+        Z2::Sub => Ok(()),
+        Z2::Mul => Ok(()),
+        Z2::Max => Ok(()),
+        Z2::Min => Ok(()),
+        Z2::And => Ok(()),
+        Z2::Ior => Ok(()),
+        Z2::Xor => Ok(()),
+    }
+}
+
+fn divisors(ys: &[i64]) -> Result<(), Fault>
+    ensures fault { result ≡ check (list_all is_divisor ys.now) Fault.ZeroDivisor }
+    ensures holds { OnOk result (All IsDivisor ys.now) }
+{
+    if divisors_ok(ys) {
+        Ok(())
+    } else {
+        Err(Fault::ZeroDivisor)
+    }
+}
+
+fn shifts(ys: &[i64]) -> Result<(), Fault>
+    ensures fault { result ≡ check (list_all is_shift ys.now) Fault.BadShift }
+    ensures holds { OnOk result (All IsShift ys.now) }
+{
+    if shifts_ok(ys) {
+        Ok(())
+    } else {
+        Err(Fault::BadShift)
+    }
+}
+
+/// The index holds each place of each segment once.
+pub(crate) fn permutes(alloc: Global, places: &[i64], segments: &Segd) -> Result<(), Stop>
+    requires { sum segments.now ≡ length places.now }
+    ensures fault { GivesBy true (λ u. u) result (check (permutes segments.now places.now) Fault.BadIndex) }
+    ensures holds { OnOk result (PermuteSegments segments.now places.now) }
+{
+    let each = is_permutation(alloc, places, segments)?;
+    if each {
+        Ok(())
+    } else {
+        Err(Stop::Fault(Fault::BadIndex))
+    }
+}
+
+/// Each segment of the index holds places of the segment of the source that has its number.
+pub(crate) fn lies_within(places: &[i64], source: &Segd, by: &Segd) -> Result<(), Fault>
+    requires counts { length source.now ≡ length by.now }
+    requires total { sum by.now ≡ length places.now }
+    ensures fault { result ≡ check (lies_within source.now by.now places.now) Fault.BadIndex }
+    ensures holds { OnOk result (LieWithin source.now by.now places.now) }
+{
+    if in_range(places, source, by) {
+        Ok(())
+    } else {
+        Err(Fault::BadIndex)
+    }
+}
+
+/// The segment list of one segment, which has all items.
+pub(crate) fn one_segment(alloc: Global, items: usize) -> Result<Segd, OutOfMemory>
+    ensures { IfOk result (λ segments. segments ≡ items ∷ []) }
+{
+    Segd::one(alloc, items as u64).map_err(|_| OutOfMemory)
+}

@@ -1,0 +1,11 @@
+pub mod Truths
+pub mod Spaced
+pub mod WordTexts
+pub mod WordTable
+pub mod WordLemmas
+pub mod AllOf
+pub mod NameTexts
+pub mod NumberTexts
+pub mod TruthTexts
+pub mod NumberReading
+pub mod LineTexts

@@ -1,0 +1,14 @@
+use Rattle.std.proofs.Common.{ap, ◌∙◌}
+use Rattle.cvl_text.specs.Lines.{task_in}
+use Rattle.cvl_text.specs.TaskTexts.{task_words}
+use Rattle.cvl_text.specs.Words.{words_of}
+use Rattle.cvl_text.proofs.LineTexts.{task_in-sound, task_in-complete, AreWords-task}
+use Rattle.cvl_text.proofs.Spaced.{words_of-spaced}
+use Rattle.cvl_text.proofs.laws.lines_read_back.Goals as goal
+
+pub returns : goal.returns
+returns c = record {
+  exactly = λ line t. (task_in-sound (words_of line) t, λ h. ap task_in h.1 ∙ task_in-complete t h.0);
+  words = λ t h. words_of-spaced (task_words t) (AreWords-task t h);
+  back = λ t h. ap task_in (words_of-spaced (task_words t) (AreWords-task t h)) ∙ task_in-complete t h;
+}

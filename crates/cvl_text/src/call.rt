@@ -1,0 +1,313 @@
+ghost use Rattle.std.specs.Prelude.{◌≡◌};
+ghost use Rattle.cvl_text.specs.Tasks.{task_of, reads, target, four_of};
+
+use crate::word::{B1, B2, Cmp, Kind, ScanB, ScanZ, Z1, Z2};
+use vector_memory::Name;
+
+/// A call: what one line asks of the machine. `to` is the name that gets the result; the other names are read. Where a
+/// segment list may be named, none stands for one segment.
+#[derive(Debug, Drop)]
+pub enum Call {
+    /// `to = z x ..`: the integers, at most 1,048,576.
+    SetInts {
+        to: Name,
+        items: Vec<i64>,
+    },
+    /// `to = b T F ..`: the truth values, at most 1,048,576.
+    SetBools {
+        to: Name,
+        items: Vec<bool>,
+    },
+    /// `get a`: the value, as a reply.
+    Get {
+        a: Name,
+    },
+    /// `to = mov_fov a`: the same value; `a` keeps it.
+    Mov {
+        to: Name,
+        a: Name,
+    },
+    /// `fre_fov a`: the name and its value go.
+    Free {
+        a: Name,
+    },
+    /// `to = alo_foz n`: n zeros, from 0 to 1,048,576.
+    Alo {
+        to: Name,
+        n: i64,
+    },
+    /// `len_fov a`: the number of items, as a reply.
+    Len {
+        a: Name,
+    },
+    /// `to = mke_fov a`: the segment list of these lengths, none below 0, with a sum of at most 1,048,576.
+    MakeSegs {
+        to: Name,
+        a: Name,
+    },
+    /// `to = len_fos s`: the lengths of the segments, as integers.
+    LenSegs {
+        to: Name,
+        s: Name,
+    },
+    /// `to = add_wuz a b` and its kin: two vectors of integers of one length, item by item.
+    MapZ2 {
+        to: Name,
+        op: Z2,
+        a: Name,
+        b: Name,
+    },
+    /// `to = not_wuz a`, `to = cpy_wuz a`: the integers one by one.
+    MapZ1 {
+        to: Name,
+        op: Z1,
+        a: Name,
+    },
+    /// `to = eql_wuz a b` and its kin: whether the comparison holds, item by item.
+    CmpZ {
+        to: Name,
+        op: Cmp,
+        a: Name,
+        b: Name,
+    },
+    /// `to = and_wub a b` and its kin: two vectors of truth values of one length, item by item.
+    MapB2 {
+        to: Name,
+        op: B2,
+        a: Name,
+        b: Name,
+    },
+    /// `to = not_wub a`, `to = cpy_wub a`: the truth values one by one.
+    MapB1 {
+        to: Name,
+        op: B1,
+        a: Name,
+    },
+    /// `to = sel_wuz f a b`, `to = sel_wub f a b`: the item of `a` where the flag is set, else that of `b`.
+    Sel {
+        to: Name,
+        kind: Kind,
+        f: Name,
+        a: Name,
+        b: Name,
+    },
+    /// `to = boo_wuz a`: whether each integer is not 0.
+    Boo {
+        to: Name,
+        a: Name,
+    },
+    /// `to = int_wub a`: 1 for true, 0 for false.
+    IntOf {
+        to: Name,
+        a: Name,
+    },
+    /// `to = add_suz a`, `to = add_sez a s` and their kin: at each item, what the operation makes of the items before
+    /// it in its segment.
+    ScanOfZ {
+        to: Name,
+        op: ScanZ,
+        a: Name,
+        s: Option<Name>,
+    },
+    /// `to = and_sub a`, `to = and_seb a s` and their kin: the same of truth values.
+    ScanOfB {
+        to: Name,
+        op: ScanB,
+        a: Name,
+        s: Option<Name>,
+    },
+    /// `add_ruz a` and its kin: what the operation makes of all items, as a reply.
+    RedZ {
+        op: ScanZ,
+        a: Name,
+    },
+    /// `and_rub a` and its kin: the same of truth values.
+    RedB {
+        op: ScanB,
+        a: Name,
+    },
+    /// `to = add_rez a s` and its kin: what the operation makes of each segment.
+    RedSegZ {
+        to: Name,
+        op: ScanZ,
+        a: Name,
+        s: Name,
+    },
+    /// `to = and_reb a s` and its kin: the same of truth values.
+    RedSegB {
+        to: Name,
+        op: ScanB,
+        a: Name,
+        s: Name,
+    },
+    /// `to = dis_vuz x n`: n times the integer.
+    DisZ {
+        to: Name,
+        x: i64,
+        n: i64,
+    },
+    /// `to = dis_vub x n`: n times the truth value.
+    DisB {
+        to: Name,
+        x: bool,
+        n: i64,
+    },
+    /// `to = dis_vez a s`, `to = dis_veb a s`: each item as often as its segment is long.
+    DisSeg {
+        to: Name,
+        kind: Kind,
+        a: Name,
+        s: Name,
+    },
+    /// `to = ind_luz u v n`: n integers from u on, by steps of v, wrapping.
+    Ind {
+        to: Name,
+        u: i64,
+        v: i64,
+        n: i64,
+    },
+    /// `to = ind_lez a b s`: the same in each segment, from the items of `a` by those of `b`.
+    IndSeg {
+        to: Name,
+        a: Name,
+        b: Name,
+        s: Name,
+    },
+    /// `to = smp_puz a i`, `to = smp_pez a i s` and their kin for truth values: each item goes to the place that the
+    /// index holds beside it, in its segment.
+    Smp {
+        to: Name,
+        kind: Kind,
+        a: Name,
+        i: Name,
+        s: Option<Name>,
+    },
+    /// `to = bck_puz a i`, `to = bck_pub a i`: for each index the item at its place.
+    Bck {
+        to: Name,
+        kind: Kind,
+        a: Name,
+        i: Name,
+    },
+    /// `to = bck_pez a s i t`, `to = bck_peb a s i t`: the same, each segment of the index in its own segment of `a`.
+    BckSeg {
+        to: Name,
+        kind: Kind,
+        a: Name,
+        s: Name,
+        i: Name,
+        t: Name,
+    },
+    /// `to = pck_puz a f`, `to = pck_pez a f s` and their kin for truth values: the items whose flag is set.
+    Pck {
+        to: Name,
+        kind: Kind,
+        a: Name,
+        f: Name,
+        s: Option<Name>,
+    },
+    /// `to = pkl_leb f s`: how many flags are set in each segment.
+    Pkl {
+        to: Name,
+        f: Name,
+        s: Name,
+    },
+    /// `ext_vuz a p`: the item at place p, as a reply.
+    Ext {
+        a: Name,
+        p: i64,
+    },
+    /// `to = rep_vuz a p x`: the items of `a`, with x at place p.
+    Rep {
+        to: Name,
+        a: Name,
+        p: i64,
+        x: i64,
+    },
+}
+
+/// The name that a call writes or frees; none where it only replies.
+pub fn target(call: &Call) -> Option<Name>
+    ensures { result ≡ target (task_of call.now) }
+{
+    match call {
+        Call::SetInts { to, .. } => Some(*to),
+        Call::SetBools { to, .. } => Some(*to),
+        Call::Get { .. } => None,
+        Call::Mov { to, .. } => Some(*to),
+        Call::Free { a } => Some(*a),
+        Call::Alo { to, .. } => Some(*to),
+        Call::Len { .. } => None,
+        Call::MakeSegs { to, .. } => Some(*to),
+        Call::LenSegs { to, .. } => Some(*to),
+        Call::MapZ2 { to, .. } => Some(*to),
+        Call::MapZ1 { to, .. } => Some(*to),
+        Call::CmpZ { to, .. } => Some(*to),
+        Call::MapB2 { to, .. } => Some(*to),
+        Call::MapB1 { to, .. } => Some(*to),
+        Call::Sel { to, .. } => Some(*to),
+        Call::Boo { to, .. } => Some(*to),
+        Call::IntOf { to, .. } => Some(*to),
+        Call::ScanOfZ { to, .. } => Some(*to),
+        Call::ScanOfB { to, .. } => Some(*to),
+        Call::RedZ { .. } => None,
+        Call::RedB { .. } => None,
+        Call::RedSegZ { to, .. } => Some(*to),
+        Call::RedSegB { to, .. } => Some(*to),
+        Call::DisZ { to, .. } => Some(*to),
+        Call::DisB { to, .. } => Some(*to),
+        Call::DisSeg { to, .. } => Some(*to),
+        Call::Ind { to, .. } => Some(*to),
+        Call::IndSeg { to, .. } => Some(*to),
+        Call::Smp { to, .. } => Some(*to),
+        Call::Bck { to, .. } => Some(*to),
+        Call::BckSeg { to, .. } => Some(*to),
+        Call::Pck { to, .. } => Some(*to),
+        Call::Pkl { to, .. } => Some(*to),
+        Call::Ext { .. } => None,
+        Call::Rep { to, .. } => Some(*to),
+    }
+}
+
+/// The names that a call reads, from left to right, and None after them. A name that is read twice stands twice.
+pub fn reads(call: &Call) -> [Option<Name>; 4]
+    ensures { result ≡ four_of (reads (task_of call.now)) }
+{
+    match call {
+        Call::SetInts { .. } => [None, None, None, None],
+        Call::SetBools { .. } => [None, None, None, None],
+        Call::Get { a } => [Some(*a), None, None, None],
+        Call::Mov { a, .. } => [Some(*a), None, None, None],
+        Call::Free { a } => [Some(*a), None, None, None],
+        Call::Alo { .. } => [None, None, None, None],
+        Call::Len { a } => [Some(*a), None, None, None],
+        Call::MakeSegs { a, .. } => [Some(*a), None, None, None],
+        Call::LenSegs { s, .. } => [Some(*s), None, None, None],
+        Call::MapZ2 { a, b, .. } => [Some(*a), Some(*b), None, None],
+        Call::MapZ1 { a, .. } => [Some(*a), None, None, None],
+        Call::CmpZ { a, b, .. } => [Some(*a), Some(*b), None, None],
+        Call::MapB2 { a, b, .. } => [Some(*a), Some(*b), None, None],
+        Call::MapB1 { a, .. } => [Some(*a), None, None, None],
+        Call::Sel { f, a, b, .. } => [Some(*f), Some(*a), Some(*b), None],
+        Call::Boo { a, .. } => [Some(*a), None, None, None],
+        Call::IntOf { a, .. } => [Some(*a), None, None, None],
+        Call::ScanOfZ { a, s, .. } => [Some(*a), *s, None, None],
+        Call::ScanOfB { a, s, .. } => [Some(*a), *s, None, None],
+        Call::RedZ { a, .. } => [Some(*a), None, None, None],
+        Call::RedB { a, .. } => [Some(*a), None, None, None],
+        Call::RedSegZ { a, s, .. } => [Some(*a), Some(*s), None, None],
+        Call::RedSegB { a, s, .. } => [Some(*a), Some(*s), None, None],
+        Call::DisZ { .. } => [None, None, None, None],
+        Call::DisB { .. } => [None, None, None, None],
+        Call::DisSeg { a, s, .. } => [Some(*a), Some(*s), None, None],
+        Call::Ind { .. } => [None, None, None, None],
+        Call::IndSeg { a, b, s, .. } => [Some(*a), Some(*b), Some(*s), None],
+        Call::Smp { a, i, s, .. } => [Some(*a), Some(*i), *s, None],
+        Call::Bck { a, i, .. } => [Some(*a), Some(*i), None, None],
+        Call::BckSeg { a, s, i, t, .. } => [Some(*a), Some(*s), Some(*i), Some(*t)],
+        Call::Pck { a, f, s, .. } => [Some(*a), Some(*f), *s, None],
+        Call::Pkl { f, s, .. } => [Some(*f), Some(*s), None, None],
+        Call::Ext { a, .. } => [Some(*a), None, None, None],
+        Call::Rep { a, .. } => [Some(*a), None, None, None],
+    }
+}

@@ -1,0 +1,104 @@
+//! Calls with a target and a fixed number of arguments, from the words behind the call word.
+
+ghost use Rattle.std.specs.Prelude.{◌≡◌};
+ghost use Rattle.std.specs.Option.{option_map};
+ghost use Rattle.cvl_text.specs.declared.word.Word.TheVariants.{One, Two, Three, BckSeg, Alo, DisZ, DisB, Ind, Rep};
+ghost use Rattle.cvl_text.specs.Words.{words_of};
+ghost use Rattle.cvl_text.specs.Tasks.{task_of};
+ghost use Rattle.cvl_text.specs.Lines.{targeted};
+
+use crate::arguments::{
+    four_names, name_and_two_numbers, one_name, one_number, three_names, three_numbers,
+    truth_and_number, two_names, two_numbers,
+};
+use crate::call::Call;
+use crate::named::{call_of_one, call_of_three, call_of_two};
+use crate::word::{Kind, OneWord, ThreeWord, TwoWord};
+use vector_memory::Name;
+
+/// One name.
+#[tactic(auto, unfolding(crate::specs::Lines::targeted))]
+pub(crate) fn one(to: Name, word: OneWord, text: &[u8]) -> Option<Call>
+    ensures { option_map task_of result ≡ targeted to (One word) (words_of text.now) }
+{
+    Some(call_of_one(to, word, one_name(text)?))
+}
+
+/// Two names.
+#[tactic(auto, unfolding(crate::specs::Lines::targeted))]
+pub(crate) fn two(to: Name, word: TwoWord, text: &[u8]) -> Option<Call>
+    ensures { option_map task_of result ≡ targeted to (Two word) (words_of text.now) }
+{
+    let (a, b) = two_names(text)?;
+    Some(call_of_two(to, word, a, b))
+}
+
+/// Three names.
+#[tactic(auto, unfolding(crate::specs::Lines::targeted))]
+pub(crate) fn three(to: Name, word: ThreeWord, text: &[u8]) -> Option<Call>
+    ensures { option_map task_of result ≡ targeted to (Three word) (words_of text.now) }
+{
+    let (a, b, c) = three_names(text)?;
+    Some(call_of_three(to, word, a, b, c))
+}
+
+/// Four names.
+#[tactic(auto, unfolding(crate::specs::Lines::targeted))]
+pub(crate) fn four(to: Name, kind: Kind, text: &[u8]) -> Option<Call>
+    ensures { option_map task_of result ≡ targeted to (BckSeg kind) (words_of text.now) }
+{
+    let (a, s, i, t) = four_names(text)?;
+    Some(Call::BckSeg {
+        to,
+        kind,
+        a,
+        s,
+        i,
+        t,
+    })
+}
+
+/// A number.
+#[tactic(auto, unfolding(crate::specs::Lines::targeted))]
+pub(crate) fn alo(to: Name, text: &[u8]) -> Option<Call>
+    ensures { option_map task_of result ≡ targeted to Alo (words_of text.now) }
+{
+    let n = one_number(text)?;
+    Some(Call::Alo { to, n })
+}
+
+/// Two numbers.
+#[tactic(auto, unfolding(crate::specs::Lines::targeted))]
+pub(crate) fn dis_z(to: Name, text: &[u8]) -> Option<Call>
+    ensures { option_map task_of result ≡ targeted to DisZ (words_of text.now) }
+{
+    let (x, n) = two_numbers(text)?;
+    Some(Call::DisZ { to, x, n })
+}
+
+/// A truth value and a number.
+#[tactic(auto, unfolding(crate::specs::Lines::targeted))]
+pub(crate) fn dis_b(to: Name, text: &[u8]) -> Option<Call>
+    ensures { option_map task_of result ≡ targeted to DisB (words_of text.now) }
+{
+    let (x, n) = truth_and_number(text)?;
+    Some(Call::DisB { to, x, n })
+}
+
+/// Three numbers.
+#[tactic(auto, unfolding(crate::specs::Lines::targeted))]
+pub(crate) fn ind(to: Name, text: &[u8]) -> Option<Call>
+    ensures { option_map task_of result ≡ targeted to Ind (words_of text.now) }
+{
+    let (u, v, n) = three_numbers(text)?;
+    Some(Call::Ind { to, u, v, n })
+}
+
+/// A name and two numbers.
+#[tactic(auto, unfolding(crate::specs::Lines::targeted))]
+pub(crate) fn rep(to: Name, text: &[u8]) -> Option<Call>
+    ensures { option_map task_of result ≡ targeted to Rep (words_of text.now) }
+{
+    let (a, p, x) = name_and_two_numbers(text)?;
+    Some(Call::Rep { to, a, p, x })
+}

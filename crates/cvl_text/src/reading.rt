@@ -1,0 +1,120 @@
+//! Calls from the words of their lines.
+
+ghost use Rattle.std.specs.Prelude.{◌≡◌};
+ghost use Rattle.std.specs.Option.{option_map};
+ghost use Rattle.cvl_text.specs.Words.{words_of};
+ghost use Rattle.cvl_text.specs.Tasks.{task_of};
+ghost use Rattle.cvl_text.specs.Lines.{Reads, behind_target, targeted, task_in, untargeted, without_target};
+
+use crate::arguments::{name_and_number, one_name};
+use crate::call::Call;
+use crate::fault::ReadFault;
+use crate::fixed;
+use crate::items::items;
+use crate::named::call_of_ask;
+use crate::text::next_word;
+use crate::word::Word;
+use crate::words::word_of;
+use std::alloc::Global;
+use vector_memory::Name;
+
+/// The call of a word that stands behind `=`.
+#[tactic(auto, unfolding(crate::specs::Lines::targeted))]
+fn targeted(alloc: Global, to: Name, word: Word, text: &[u8]) -> Result<Call, ReadFault>
+    ensures { Reads task_of result (targeted to word (words_of text.now)) }
+{
+    match word {
+        Word::SetInts => {
+            let items = items(alloc, text)?;
+            Ok(Call::SetInts { to, items })
+        }
+        Word::SetBools => {
+            let items = items(alloc, text)?;
+            Ok(Call::SetBools { to, items })
+        }
+        Word::One(word) => fixed::one(to, word, text).ok_or(ReadFault::BadCall),
+        Word::Two(word) => fixed::two(to, word, text).ok_or(ReadFault::BadCall),
+        Word::Three(word) => fixed::three(to, word, text).ok_or(ReadFault::BadCall),
+        Word::BckSeg(kind) => fixed::four(to, kind, text).ok_or(ReadFault::BadCall),
+        Word::Alo => fixed::alo(to, text).ok_or(ReadFault::BadCall),
+        Word::DisZ => fixed::dis_z(to, text).ok_or(ReadFault::BadCall),
+        Word::DisB => fixed::dis_b(to, text).ok_or(ReadFault::BadCall),
+        Word::Ind => fixed::ind(to, text).ok_or(ReadFault::BadCall),
+        Word::Rep => fixed::rep(to, text).ok_or(ReadFault::BadCall),
+        Word::Ask(_) => Err(ReadFault::BadCall),
+        Word::Ext => Err(ReadFault::BadCall),
+    }
+}
+
+/// The call of a word that stands first.
+#[tactic(auto, unfolding(crate::specs::Lines::untargeted))]
+fn untargeted(word: Word, text: &[u8]) -> Option<Call>
+    ensures { option_map task_of result ≡ untargeted word (words_of text.now) }
+{
+    match word {
+        Word::Ask(word) => Some(call_of_ask(word, one_name(text)?)),
+        Word::Ext => {
+            let (a, p) = name_and_number(text)?;
+            Some(Call::Ext { a, p })
+        }
+        Word::SetInts => None,
+        Word::SetBools => None,
+        Word::One(_) => None,
+        Word::Two(_) => None,
+        Word::Three(_) => None,
+        Word::BckSeg(_) => None,
+        Word::Alo => None,
+        Word::DisZ => None,
+        Word::DisB => None,
+        Word::Ind => None,
+        Word::Rep => None,
+    }
+}
+
+/// The call of the words behind a target and `=`.
+#[tactic(auto, unfolding(crate::specs::Lines::behind_target))]
+fn behind_target(alloc: Global, to: &[u8], text: &[u8]) -> Result<Call, ReadFault>
+    ensures { Reads task_of result (behind_target to.now (words_of text.now)) }
+{
+    let Some((word, rest)) = next_word(text) else {
+        return Err(ReadFault::BadCall);
+    };
+    let Some(to) = Name::read(to) else {
+        return Err(ReadFault::BadCall);
+    };
+    let Some(word) = word_of(word) else {
+        return Err(ReadFault::BadCall);
+    };
+    targeted(alloc, to, word, rest)
+}
+
+/// The call of words that begin with the call word.
+#[tactic(auto, unfolding(crate::specs::Lines::without_target))]
+fn without_target(word: &[u8], rest: &[u8]) -> Option<Call>
+    ensures { option_map task_of result ≡ without_target word.now (words_of rest.now) }
+{
+    untargeted(word_of(word)?, rest)
+}
+
+impl Call {
+    /// The call that a text asks for: the part of a line behind the caller's word, with spaces as they come.
+    /// `BadCall` exactly where the text is no call; for want of memory only where it is one.
+    #[tactic(auto, unfolding(crate::specs::Lines::task_in))]
+    pub fn read(alloc: Global, text: &[u8]) -> Result<Call, ReadFault>
+        ensures { Reads task_of result (task_in (words_of text.now)) }
+    {
+        let Some((first, rest)) = next_word(text) else {
+            return Err(ReadFault::BadCall);
+        };
+        match next_word(rest) {
+            Some((second, behind)) => {
+                if second == b"=".as_slice() {
+                    behind_target(alloc, first, behind)
+                } else {
+                    without_target(first, rest).ok_or(ReadFault::BadCall)
+                }
+            }
+            None => without_target(first, rest).ok_or(ReadFault::BadCall),
+        }
+    }
+}

@@ -1,0 +1,73 @@
+//! Every call word on the same operands: what it gives, and each fault that it can have. A file for each shape of call.
+
+use crate::program::ends_with;
+use std::alloc::{Alloc, Global};
+use std::test::Fail;
+use std::thread::Threads;
+
+mod arithmetic;
+mod comparisons;
+mod memory;
+mod order;
+mod packs;
+mod permutes;
+mod reductions;
+mod scans;
+mod spreads;
+mod targets;
+mod truths;
+
+/// The operands of every call: integers, truth values and segment lists, and `d`, which the calls write to. No line sets
+/// `x`.
+const OPERANDS: &str = "0: a = z 7 -8 9\n\
+    0: b = z 2 3 -4\n\
+    0: w = z 1 2\n\
+    0: i = z 2 0 1\n\
+    0: j = z 1 0 0\n\
+    0: k = z 0 3 1\n\
+    0: m = z 0 -1 64\n\
+    0: p = b T F T\n\
+    0: q = b T T F\n\
+    0: v = b T F\n\
+    0: s = z 2 1\n\
+    0: s = mke_fov s\n\
+    0: t = z 1 2 1\n\
+    0: t = mke_fov t\n\
+    0: u = z 2 0 1\n\
+    0: u = mke_fov u\n\
+    0: d = z 9\n";
+
+/// How many lines set the operands.
+const OPERAND_LINES: usize = 17;
+
+/// Whether this call on the operands puts this value into `d`.
+pub fn gives(
+    rt: &(impl Alloc<A = Global> + Threads + Sync),
+    call: &str,
+    value: &str,
+) -> Result<bool, Fail> {
+    let script = format!(in rt.alloc(); "{OPERANDS}0: {call}\n0: get d\n")?;
+    let text = format!(in rt.alloc(); "0 {value}\n")?;
+    ends_with(rt, &["serial"], &script, OPERAND_LINES + 1, &text)
+}
+
+/// Whether this call on the operands has this reply and leaves `d` as it was.
+pub fn replies(
+    rt: &(impl Alloc<A = Global> + Threads + Sync),
+    call: &str,
+    reply: &str,
+) -> Result<bool, Fail> {
+    replies_within(rt, "67108864", call, reply)
+}
+
+/// Whether this call on the operands has this reply in a memory of this room and leaves `d` as it was.
+pub fn replies_within(
+    rt: &(impl Alloc<A = Global> + Threads + Sync),
+    room: &str,
+    call: &str,
+    reply: &str,
+) -> Result<bool, Fail> {
+    let script = format!(in rt.alloc(); "{OPERANDS}0: {call}\n0: get d\n")?;
+    let text = format!(in rt.alloc(); "0 {reply}\n0 z 9\n")?;
+    ends_with(rt, &["serial", room], &script, OPERAND_LINES, &text)
+}
