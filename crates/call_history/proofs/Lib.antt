@@ -1,0 +1,4 @@
+pub mod Beginnings
+pub mod CallerLemmas
+pub mod Replays
+pub mod Serving

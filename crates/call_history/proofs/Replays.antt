@@ -1,0 +1,72 @@
+-- A replay goes call by call, and keeps the room.
+use Rattle.std.proofs.Common.{◌≡◌, ℕ, suc, length, slice_get, List, [], ◌∷◌, ◌++◌, Option, Some, None, Result, Ok, Err, refl, sym, ap, ◌∙◌}
+use Rattle.vector_memory.specs.declared.name.Name.{Name}
+use Rattle.vector_memory.specs.declared.memory.StoreFault.{StoreFault}
+use Rattle.vector_memory.specs.declared.memory.StoreFault.TheVariants.{NoRoom, TooManyNames, OutOfMemory}
+use Rattle.vector_memory.specs.States.{State, empty, refusal, put}
+use Rattle.cvl_text.specs.declared.fault.Fault.{Fault}
+use Rattle.cvl_text.specs.Tasks.{Task, task_of, target}
+use Rattle.cvl_calls.specs.Outcomes.{Effect, Stores, Frees, Answers, operands_of}
+use Rattle.cvl_calls.specs.Steps.{refused, applied, followed, stepped}
+use Rattle.cvl_calls.specs.Work.{work}
+use Rattle.call_history.specs.declared.entry.Entry.{Entry}
+use Rattle.std.specs.List.{last_or}
+use Rattle.cvl_text.specs.Answers.{Answer}
+use Rattle.call_history.specs.History.{replay_from, replay, replies_from, last_reply, reply_after}
+
+pub replay_from-append : (m : State) (xs ys : List Entry) → replay_from m (xs ++ ys) ≡ replay_from (replay_from m xs) ys
+replay_from-append m [] ys = refl
+replay_from-append m (x ∷ xs) ys = replay_from-append (stepped m (task_of x.call)).memory xs ys
+
+room-refused : (m stored : State) (why : Option StoreFault) → stored.room ≡ m.room → (refused m why stored).memory.room ≡ m.room
+room-refused m stored None same = same
+room-refused m stored (Some NoRoom) same = refl
+room-refused m stored (Some TooManyNames) same = refl
+room-refused m stored (Some OutOfMemory) same = refl
+
+room-applied : (m : State) (to : Option Name) (effect : Effect) → (applied m to effect).memory.room ≡ m.room
+room-applied m None (Answers a) = refl
+room-applied m (Some n) (Answers a) = refl
+room-applied m (Some n) (Stores v) = room-refused m (put m n v) (refusal m n v) refl
+room-applied m None (Stores v) = refl
+room-applied m (Some n) Frees = refl
+room-applied m None Frees = refl
+
+room-followed : (m : State) (to : Option Name) (worked : Result Effect Fault) → (followed m to worked).memory.room ≡ m.room
+room-followed m to (Ok effect) = room-applied m to effect
+room-followed m to (Err fault) = refl
+
+pub room-stepped : (m : State) (t : Task) → (stepped m t).memory.room ≡ m.room
+room-stepped m t = room-followed m (target t) (work t.word (operands_of m t.arguments))
+
+pub room-replay_from : (m : State) (history : List Entry) → (replay_from m history).room ≡ m.room
+room-replay_from m [] = refl
+room-replay_from m (e ∷ es) = room-replay_from (stepped m (task_of e.call)).memory es ∙ room-stepped m (task_of e.call)
+
+-- a step from the memory that a history leads to is the next of its replay
+pub replay-push : (m next : State) (history : List Entry) (e : Entry) → m ≡ replay m.room history → (stepped m (task_of e.call)).memory ≡ next → next ≡ replay next.room (history ++ e ∷ [])
+replay-push m next history e known steps =
+    let same : next.room ≡ m.room = ap (λ s. s.room) (sym steps) ∙ room-stepped m (task_of e.call) in
+    sym steps ∙ (ap (λ s. (stepped s (task_of e.call)).memory) (known ∙ ap (λ room. replay room history) (sym same))
+    ∙ sym (replay_from-append (empty next.room) history (e ∷ [])))
+
+pub replies_from-append : (m : State) (xs ys : List Entry) → replies_from m (xs ++ ys) ≡ replies_from m xs ++ replies_from (replay_from m xs) ys
+replies_from-append m [] ys = refl
+replies_from-append m (x ∷ xs) ys = ap (λ l. (stepped m (task_of x.call)).answer ∷ l) (replies_from-append (stepped m (task_of x.call)).memory xs ys)
+
+pub length-replies_from : (m : State) (history : List Entry) → length (replies_from m history) ≡ length history
+length-replies_from m [] = refl
+length-replies_from m (e ∷ es) = ap suc (length-replies_from (stepped m (task_of e.call)).memory es)
+
+last_or-snoc : (o : Option Answer) (xs : List Answer) (x : Answer) → last_or o (xs ++ x ∷ []) ≡ Some x
+last_or-snoc o [] x = refl
+last_or-snoc o (y ∷ ys) x = last_or-snoc (Some y) ys x
+
+pub last_reply-push : (room : ℕ) (history : List Entry) (e : Entry) → last_reply room (history ++ e ∷ []) ≡ Some (reply_after room history e.call)
+last_reply-push room history e = ap (last_or None) (replies_from-append (empty room) history (e ∷ [])) ∙ last_or-snoc None (replies_from (empty room) history) (reply_after room history e.call)
+
+-- the reply at each place is the one behind the history before it
+pub reply-at_place : (m : State) (before after : List Entry) (e : Entry)
+    → slice_get (replies_from m (before ++ e ∷ after)) (length before) ≡ Some (stepped (replay_from m before) (task_of e.call)).answer
+reply-at_place m [] after e = refl
+reply-at_place m (x ∷ before) after e = reply-at_place (stepped m (task_of x.call)).memory before after e

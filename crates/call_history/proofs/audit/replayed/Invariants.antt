@@ -1,0 +1,7 @@
+use Rattle.std.proofs.Common.{◌≡◌, drop}
+use Rattle.call_history.specs.History.{replay_from, replay}
+use Rattle.call_history.proofs.audit.replayed.Given as goal
+
+-- what the entries that are left make of the memory is what all make of an empty one
+abbrev pub invariant-loop-entry : goal.invariant-loop-entry
+invariant-loop-entry g l = replay_from l.memory (drop l.entry-index l.entries) ≡ replay l.fn.room l.entries

@@ -1,0 +1,8 @@
+use Rattle.call_history.proofs.Serving.{answers-from_serves, answers-from_run}
+use Rattle.call_history.proofs.laws.served_is_answered.Goals as goal
+
+pub returns : goal.returns
+returns c = record {
+  batch = answers-from_serves;
+  run = answers-from_run;
+}

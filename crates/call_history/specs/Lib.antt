@@ -1,0 +1,7 @@
+pub mod History
+pub mod Callers
+pub mod Answers
+pub mod Fits
+pub mod Books
+pub mod Insides
+pub mod Shown

@@ -1,0 +1,53 @@
+//! Doing a history again.
+
+ghost use Rattle.std.specs.Prelude.{◌≡◌, ◌↔◌, IsTrue, IfOk};
+ghost use Rattle.vector_memory.specs.Contents.{content_of};
+ghost use Rattle.vector_memory.specs.States.{IsLawfulRoom};
+ghost use Rattle.call_history.specs.History.{replay};
+ghost use Rattle.call_history.specs.Shown.{shown};
+
+use crate::entry::Entry;
+use cvl_calls::step;
+use std::alloc::Global;
+use std::thread::Threads;
+use vector_memory::{Memory, Name, OutOfMemory, Value};
+
+/// A new memory of this room, after the calls of the entries one by one.
+pub(crate) fn replayed(
+    rt: &(impl Threads + Sync),
+    alloc: Global,
+    room: u64,
+    entries: &[Entry],
+) -> Result<Memory, OutOfMemory>
+    requires { IsLawfulRoom room }
+    ensures { IfOk result (λ memory. memory ≡ replay room entries.now) }
+{
+    let mut memory = Memory::new(alloc, room)?;
+    for entry in entries {
+        let Ok(_reply) = step(rt, alloc, &mut memory, &entry.call) else {
+            return Err(OutOfMemory);
+        };
+    }
+    Ok(memory)
+}
+
+/// Whether two values are the same items.
+fn is_same_value(one: &Value, other: &Value) -> bool
+    ensures { IsTrue result ↔ (content_of one.now ≡ content_of other.now) }
+{
+    one == other
+}
+
+/// Whether two names are one, and stand for the same items.
+fn is_same(one: (&Name, &Value), other: (&Name, &Value)) -> bool
+    ensures { IsTrue result ↔ (shown one.entry ≡ shown other.entry) }
+{
+    one.0 == other.0 && is_same_value(one.1, other.1)
+}
+
+/// Whether two memories have the same names in the same order, for the same items.
+pub(crate) fn holds_the_same(one: &Memory, other: &Memory) -> bool
+    ensures { IsTrue result ↔ (one.now.entries ≡ other.now.entries) }
+{
+    one.len() == other.len() && one.iter().zip(other.iter()).all(|(a, b)| is_same(a, b))
+}

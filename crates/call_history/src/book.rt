@@ -1,0 +1,163 @@
+ghost use Rattle.std.specs.Prelude.{◌≡◌, ◌==◌, ◌+◌, ◌<◌, ◌≤◌, ◌∷◌, ◌++◌, [], length, slice_get, Some, IfOk, IfErr, OnOk, OnErr, IsOk, IsTrue};
+ghost use Rattle.vector_memory.specs.States.{IsLawfulRoom};
+ghost use Rattle.cvl_text.specs.Tasks.{task_of};
+ghost use Rattle.cvl_text.specs.Answers.{answer_of};
+ghost use Rattle.cvl_calls.specs.Steps.{MayLackMemory, stepped};
+ghost use Rattle.cvl_calls.specs.Runs.{TakesNoMemory};
+ghost use Rattle.call_history.specs.History.{reply_after};
+ghost use Rattle.call_history.specs.Books.{memory_of};
+ghost use Rattle.call_history.specs.Callers.{IsTicketed, HasLawfulCallers, next_entry};
+
+use crate::audit::{holds_the_same, replayed};
+use crate::entry::Entry;
+use cvl_calls::step;
+use cvl_text::{Call, Reply};
+use std::alloc::Global;
+use std::marker::Model;
+use std::thread::Threads;
+use vector_memory::{Memory, OutOfMemory};
+
+/// The greatest number of callers.
+pub const CALLER_LIMIT: usize = 64;
+
+/// A history, and the memory that it leads to.
+#[derive(Drop)]
+pub struct Book {
+    memory: Memory,
+    entries: Vec<Entry>,
+    /// The next ticket of each caller.
+    tickets: [u64; CALLER_LIMIT],
+}
+
+impl Model for Book {
+    ghost use Rattle.call_history.specs.Books.{BookState};
+
+    ghost Value = { BookState };
+
+    ghost use Rattle.call_history.specs.Insides.{book_state, IsKept};
+
+    ghost view = { book_state };
+
+    ghost invariant = { IsKept };
+}
+
+impl Book {
+    /// A book with an empty history, whose memory has room for up to `room` items together.
+    pub fn new(alloc: Global, room: u64) -> Result<Book, OutOfMemory>
+        requires { IsLawfulRoom room }
+        ensures history { IfOk result (λ book. book.history ≡ []) }
+        ensures room { IfOk result (λ book. book.room ≡ room) }
+    {
+        Ok(Book {
+            memory: Memory::new(alloc, room)?,
+            entries: Vec::new(alloc),
+            tickets: [0; CALLER_LIMIT],
+        })
+    }
+
+    /// Runs a call and writes it behind the history. A fault is a reply, and its call an entry like any other.
+    /// Answers the place of the entry, counted from 0, and the reply. For want of memory the call comes back and stands in
+    /// no history.
+    pub fn run(
+        &mut self,
+        rt: &(impl Threads + Sync),
+        alloc: Global,
+        caller: u64,
+        call: Call,
+    ) -> Result<(u64, Reply), (Call, OutOfMemory)>
+        requires { caller < CALLER_LIMIT }
+        ensures history { OnOk result (self.new.history
+            ≡ self.old.history ++ next_entry self.old.history caller call ∷ []) }
+        ensures place { IfOk result (λ answer. answer.0 ≡ length self.old.history) }
+        ensures reply { IfOk result (λ answer. answer_of answer.1 ≡ reply_after self.old.room self.old.history call) }
+        ensures memory { OnOk result (memory_of self.new ≡ (stepped (memory_of self.old) (task_of call)).memory) }
+        ensures one_space { OnOk result (self.old.spaces ≤ self.new.spaces + 1) }
+
+        ensures back { IfErr result (λ refused. refused.0 ≡ call) }
+        ensures unchanged { OnErr result (self.new.history ≡ self.old.history) }
+        ensures spaces_kept { OnErr result (self.old.spaces ≤ self.new.spaces) }
+
+        ensures room { self.new.room ≡ self.old.room }
+
+        // In space that was reserved it is refused only where a step is.
+        ensures lacks { 0 < self.old.spaces →
+            OnErr result (MayLackMemory (memory_of self.old) (task_of call)) }
+        ensures answered { 0 < self.old.spaces → TakesNoMemory (task_of call).word → IsOk result }
+    {
+        let Ok(()) = self.entries.reserve(1) else {
+            return Err((call, OutOfMemory));
+        };
+        let Ok(reply) = step(rt, alloc, &mut self.memory, &call) else {
+            return Err((call, OutOfMemory));
+        };
+        let place = self.entries.len() as u64;
+        let ticket = self.tickets[caller as usize];
+        self.tickets[caller as usize] = ticket + 1;
+        self.entries.push_reserved(Entry {
+            caller,
+            ticket,
+            call,
+        });
+        Ok((place, reply))
+    }
+
+    /// Makes space for `additional` more entries at least. History and room are as before either way.
+    pub fn reserve(&mut self, additional: usize) -> Result<(), OutOfMemory>
+        ensures spaces { OnOk result (additional ≤ self.new.spaces) }
+        ensures succeeds { additional ≤ self.old.spaces → IsOk result }
+        ensures spaces_kept { self.old.spaces ≤ self.new.spaces }
+        ensures history { self.new.history ≡ self.old.history }
+        ensures room { self.new.room ≡ self.old.room }
+    {
+        self.entries.reserve(additional)?;
+        Ok(())
+    }
+
+    /// The number of entries. In each book the tickets of a caller are 0, 1, 2 and so on in order.
+    pub fn len(&self) -> usize
+        ensures len { result ≡ length self.now.history }
+        ensures ticketed { IsTicketed self.now.history }
+        ensures callers { HasLawfulCallers self.now.history }
+    {
+        self.entries.len()
+    }
+
+    /// Whether no call has run.
+    pub fn is_empty(&self) -> bool
+        ensures { result ≡ (length self.now.history == 0) }
+    {
+        self.entries.is_empty()
+    }
+
+    /// The entry at place `i`, counted from 0.
+    pub fn entry(&self, i: usize) -> &Entry
+        requires { i < length self.now.history }
+        ensures { slice_get self.now.history i ≡ Some result.now }
+    {
+        &self.entries[i]
+    }
+
+    /// What the calls of the history made of an empty memory, one by one.
+    pub fn memory(&self) -> &Memory
+        ensures { result.now ≡ memory_of self.now }
+    {
+        &self.memory
+    }
+
+    /// Runs the calls of the history anew, on a memory of its own, and answers whether names, their order and their values
+    /// come out as they stand. They do in each book.
+    pub fn audit(&self, rt: &(impl Threads + Sync), alloc: Global) -> Result<bool, OutOfMemory>
+        ensures { IfOk result IsTrue }
+    {
+        let anew = replayed(rt, alloc, self.memory.room(), &self.entries)?;
+        Ok(holds_the_same(&anew, &self.memory))
+    }
+
+    /// The greatest number of items of all values.
+    pub fn room(&self) -> u64
+        ensures room { result ≡ self.now.room }
+        ensures lawful { IsLawfulRoom self.now.room }
+    {
+        self.memory.room()
+    }
+}

@@ -1,0 +1,11 @@
+use cvl_text::Call;
+
+/// A call in a history.
+#[derive(Debug, Drop)]
+pub struct Entry {
+    /// The number of the caller, from 0.
+    pub caller: u64,
+    /// How many calls of this caller stand before it.
+    pub ticket: u64,
+    pub call: Call,
+}

@@ -1,0 +1,86 @@
+//! Laws of the definitions that the contracts cite: each function does nothing, and its contract is the law.
+
+ghost use Rattle.std.specs.Prelude.{◌≡◌, ◌≢◌, ◌+◌, ◌≤◌, ◌∷◌, ◌++◌, [], ℕ, List, Some, None, length, take, slice_get};
+ghost use Rattle.vector_memory.specs.States.{State, empty};
+ghost use Rattle.cvl_text.specs.declared.call.Call.{Call};
+ghost use Rattle.cvl_text.specs.declared.reply.Reply.{Reply};
+ghost use Rattle.cvl_text.specs.Answers.{Answer, answer_of};
+ghost use Rattle.call_history.specs.declared.entry.Entry.{Entry};
+ghost use Rattle.call_history.specs.declared.request.Request.{Request};
+ghost use Rattle.call_history.specs.declared.request.Outcome.{Outcome};
+ghost use Rattle.call_history.specs.declared.request.Outcome.TheVariants.{Answered, Refused};
+ghost use Rattle.call_history.specs.History.{Begins, entry, replay, replay_from, replies_from, last_reply, reply_after};
+ghost use Rattle.call_history.specs.Callers.{calls_by};
+ghost use Rattle.call_history.specs.Answers.{Answers};
+ghost use Rattle.call_history.specs.Fits.{Fits, Serves, asked_by, request, request_by};
+
+/// A history is replayed part by part, and keeps the room.
+pub fn replays_go_on()
+    ensures parts { (m : State) (first rest : List Entry)
+        → replay_from m (first ++ rest) ≡ replay_from (replay_from m first) rest }
+    ensures room { (room : ℕ) (history : List Entry) → (replay room history).room ≡ room }
+{}
+
+/// There is a reply to each entry, at its place, and what comes later does not change it.
+pub fn replies_stay()
+    ensures parts { (m : State) (first rest : List Entry)
+        → replies_from m (first ++ rest) ≡ replies_from m first ++ replies_from (replay_from m first) rest }
+    ensures each { (m : State) (history : List Entry)
+        → length (replies_from m history) ≡ length history }
+    ensures at_place { (room : ℕ) (before after : List Entry) (e : Entry)
+        → slice_get (replies_from (empty room) (before ++ e ∷ after)) (length before)
+        ≡ Some (reply_after room before e.call) }
+    ensures last { (room : ℕ) (before : List Entry) (e : Entry)
+        → last_reply room (before ++ e ∷ []) ≡ Some (reply_after room before e.call) }
+{}
+
+/// The calls of a caller in two parts of a history are those in the first and then those in the second, and an entry is one
+/// of its caller alone.
+pub fn callers_keep_their_calls()
+    ensures parts { (k : ℕ) (first rest : List Entry)
+        → calls_by k (first ++ rest) ≡ calls_by k first ++ calls_by k rest }
+    ensures own { (k ticket : ℕ) (call : Call) → calls_by k (entry k ticket call ∷ []) ≡ call ∷ [] }
+    ensures others { (j k ticket : ℕ) (call : Call) → k ≢ j → calls_by j (entry k ticket call ∷ []) ≡ [] }
+{}
+
+/// Beginnings of a history begin one another.
+pub fn beginnings_are_nested()
+    ensures same { (line : List Entry) → Begins line line }
+    ensures longer { (seen middle line : List Entry) → Begins seen middle → Begins middle line → Begins seen line }
+    ensures shorter { (seen other line : List Entry) → Begins seen line → Begins other line
+        → length seen ≤ length other → Begins seen other }
+    ensures first { (n : ℕ) (line : List Entry) → Begins (take n line) line }
+{}
+
+/// A request asks for one call.
+pub fn asks_for_one_call()
+    ensures { (r : Request) → length (asked_by r) ≡ 1 }
+{}
+
+/// A batch without requests changes nothing. One more request of another caller fits behind a batch, where it is refused,
+/// and where it is answered behind the history as it then stands.
+pub fn batches_grow()
+    ensures nothing { (room : ℕ) (history : List Entry) → Fits room history [] history [] }
+    ensures refused { (room : ℕ) (old mid : List Entry) (rs : List Request) (os : List Outcome) (k : ℕ) (call : Call)
+        → length os ≡ length rs → request_by k rs ≡ None → Fits room old rs mid os
+        → Fits room old (rs ++ request k call ∷ []) mid (os ++ Refused call ∷ []) }
+    ensures answered { (room : ℕ) (old mid : List Entry) (rs : List Request) (os : List Outcome)
+        (k ticket : ℕ) (call : Call) (reply : Reply)
+        → length os ≡ length rs → request_by k rs ≡ None → answer_of reply ≡ reply_after room mid call
+        → Fits room old rs mid os
+        → Fits room old (rs ++ request k call ∷ []) (mid ++ entry k ticket call ∷ [])
+        (os ++ Answered (length mid) reply ∷ []) }
+{}
+
+/// A caller that had seen no more than the history before is answered at its own place: by a batch that serves its calls,
+/// and by a call that runs behind the history.
+pub fn served_is_answered()
+    ensures batch { (room : ℕ) (seen old new : List Entry) (own : List Call) (k : ℕ) (calls : List Call) (place : ℕ)
+        (replies : List Answer) → Begins seen old → Begins old new
+        → calls_by k old ≡ own → calls_by k new ≡ own ++ calls → Serves room old new k calls place replies
+        → Answers room seen own k calls (take (place + length calls) new) replies }
+    ensures run { (room : ℕ) (seen history : List Entry) (own : List Call) (k ticket : ℕ) (call : Call)
+        → Begins seen history → calls_by k history ≡ own
+        → Answers room seen own k (call ∷ []) (history ++ entry k ticket call ∷ [])
+        (reply_after room history call ∷ []) }
+{}

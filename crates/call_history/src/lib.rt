@@ -1,0 +1,17 @@
+//! The book: the history of all calls, in one order, and the memory that it leads to.
+//!
+//! An entry is a call with its caller and that caller's ticket. The memory of a book is at all times what the calls of its
+//! history make of an empty memory, one by one.
+#![tactic(auto)]
+
+mod audit;
+mod book;
+mod entry;
+pub mod laws;
+mod request;
+#[cfg(test)]
+mod tests;
+
+pub use book::{Book, CALLER_LIMIT};
+pub use entry::Entry;
+pub use request::{Outcome, Request};
