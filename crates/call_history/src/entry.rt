@@ -9,3 +9,6 @@ pub struct Entry {
     pub ticket: u64,
     pub call: Call,
 }
+
+/// A long history is made of entries, so their size is what a call costs in memory beyond its own items.
+const _: () = prove!(size_of::<Entry>() == 104);

@@ -191,8 +191,8 @@ pub enum Call {
     },
     /// `to = bck_pez a s i t`, `to = bck_peb a s i t`: the same, each segment of the index in its own segment of `a`.
     BckSeg {
-        to: Name,
         kind: Kind,
+        to: Name,
         a: Name,
         s: Name,
         i: Name,

@@ -2,6 +2,7 @@
 
 ghost use Rattle.std.specs.Prelude.{[], None, Err, ◌≡◌, ◌≤◌, ◌<◌, ◌+◌, ◌^◌, ◌∷◌, ◌++◌, ℕ, List, IsTrue, IsErrOf, OnOk, OnErr, IfOk, IfErr, MatchOption, length, vec_len};
 ghost use Rattle.vector_memory.specs.States.{IsLawfulRoom, empty};
+ghost use Rattle.call_history.specs.Books.{memory_of};
 ghost use Rattle.script_main.specs.Scripts.{line_limit, IsOneLine, Bad, line_of, is_good, memory_after_line, line_text, lines_of, text_of, bad_line_of, bad_text};
 ghost use Rattle.script_main.specs.Streams.{Awaits, HasBegun};
 ghost use Rattle.script_main.specs.Runs.{Serves, IsFarewell, IsStop};
@@ -9,19 +10,19 @@ ghost use Rattle.script_main.specs.Runs.{Serves, IsFarewell, IsStop};
 use crate::fault::RunFault;
 use crate::line::{LINE_LIMIT, LineFault, serve_line};
 use crate::streams::{Failed, Sink, write_all};
+use call_history::Book;
 use memchr::memchr;
 use segment_desc::OutOfMemory;
 use std::alloc::Global;
 use std::thread::Threads;
-use vector_memory::Memory;
 
 /// How many bytes of replies are gathered before they are written.
 pub(crate) const GATHERED: usize = 65536;
 
-/// A script under way on one memory.
+/// A script under way on one book.
 #[derive(Drop)]
 pub(crate) struct Run {
-    pub memory: Memory,
+    pub book: Book,
     /// How many lines are served.
     pub number: u64,
     /// What is read behind the last line feed.
@@ -92,13 +93,13 @@ impl Run {
     /// A run that has read nothing.
     pub(crate) fn new(alloc: Global, room: u64) -> Result<Run, OutOfMemory>
         requires { IsLawfulRoom room }
-        ensures memory { IfOk result (λ run. run.memory ≡ empty room) }
+        ensures memory { IfOk result (λ run. memory_of run.book ≡ empty room) }
         ensures number { IfOk result (λ run. run.number ≡ 0) }
         ensures partial { IfOk result (λ run. run.partial.items ≡ []) }
         ensures waiting { IfOk result (λ run. run.waiting.items ≡ []) }
     {
         Ok(Run {
-            memory: Memory::new(alloc, room)?,
+            book: Book::new(alloc, room)?,
             number: 0,
             partial: Vec::new(alloc),
             waiting: Vec::new(alloc),
@@ -113,28 +114,22 @@ impl Run {
         end: &[u8],
     ) -> Result<(), LineFault>
         ensures good { OnOk result (IsTrue (is_good (line_of (self.old.partial.items ++ end.now)))) }
-        ensures memory { OnOk result (self.new.memory
-            ≡ memory_after_line self.old.memory (line_of (self.old.partial.items ++ end.now))) }
+        ensures memory { OnOk result (memory_of self.new.book
+            ≡ memory_after_line (memory_of self.old.book) (line_of (self.old.partial.items ++ end.now))) }
         ensures text { OnOk result (self.new.waiting.items ≡ self.old.waiting.items
-            ++ line_text self.old.memory (line_of (self.old.partial.items ++ end.now))) }
+            ++ line_text (memory_of self.old.book) (line_of (self.old.partial.items ++ end.now))) }
         ensures partial { OnOk result (self.new.partial.items ≡ []) }
         ensures number { self.new.number ≡ self.old.number }
         ensures bad { IsErrOf result LineFault.Bad → line_of (self.old.partial.items ++ end.now) ≡ Bad }
         ensures err { OnErr result (self.new.waiting.items ≡ self.old.waiting.items) }
     {
         if self.partial.is_empty() {
-            return serve_line(rt, alloc, &mut self.memory, &mut self.waiting, end);
+            return serve_line(rt, alloc, &mut self.book, &mut self.waiting, end);
         }
         let Ok(()) = self.partial.extend_from_slice(end) else {
             return Err(LineFault::OutOfMemory);
         };
-        serve_line(
-            rt,
-            alloc,
-            &mut self.memory,
-            &mut self.waiting,
-            &self.partial,
-        )?;
+        serve_line(rt, alloc, &mut self.book, &mut self.waiting, &self.partial)?;
         self.partial.clear();
         Ok(())
     }
@@ -150,10 +145,10 @@ impl Run {
         requires number { self.old.number + 1 < 2 ^ 64 }
         requires ready { W.can_write writer.old }
         ensures good { OnOk result (IsTrue (is_good (line_of (self.old.partial.items ++ end.now)))) }
-        ensures memory { OnOk result (self.new.memory
-            ≡ memory_after_line self.old.memory (line_of (self.old.partial.items ++ end.now))) }
+        ensures memory { OnOk result (memory_of self.new.book
+            ≡ memory_after_line (memory_of self.old.book) (line_of (self.old.partial.items ++ end.now))) }
         ensures text { OnOk result (Awaits (W.written writer.old) (W.written writer.new) self.new.waiting.items
-            (self.old.waiting.items ++ line_text self.old.memory (line_of (self.old.partial.items ++ end.now)))) }
+            (self.old.waiting.items ++ line_text (memory_of self.old.book) (line_of (self.old.partial.items ++ end.now)))) }
         ensures partial { OnOk result (self.new.partial.items ≡ []) }
         ensures number { OnOk result (self.new.number ≡ self.old.number + 1) }
         ensures counted { OnOk result (W.failures writer.new ≡ W.failures writer.old) }
@@ -161,7 +156,7 @@ impl Run {
         // Whatever other lines come behind this one.
         ensures stop { IfErr result (λ fault. (script : List ℕ) (others : List (List ℕ))
             → lines_of script ≡ (self.old.partial.items ++ end.now) ∷ others
-            → IsStop fault self.old.memory self.old.number script self.old.waiting.items
+            → IsStop fault (memory_of self.old.book) self.old.number script self.old.waiting.items
             (W.written writer.old) (W.written writer.new)) }
         ensures failed { result ≡ Err RunFault.Write → W.failures writer.old < W.failures writer.new }
     {
@@ -186,7 +181,7 @@ impl Run {
         requires short { vec_len self.old.partial ≤ line_limit }
         ensures partial { OnOk result (self.new.partial.items ≡ self.old.partial.items ++ rest.now) }
         ensures short { OnOk result (vec_len self.new.partial ≤ line_limit) }
-        ensures memory { OnOk result (self.new.memory ≡ self.old.memory) }
+        ensures memory { OnOk result (memory_of self.new.book ≡ memory_of self.old.book) }
         ensures number { OnOk result (self.new.number ≡ self.old.number) }
         ensures waiting { OnOk result (self.new.waiting.items ≡ []) }
         ensures written { OnOk result (Awaits (W.written writer.old) (W.written writer.new) [] self.old.waiting.items) }
@@ -194,7 +189,7 @@ impl Run {
         ensures ready { OnOk result (W.can_write writer.new) }
         // Whatever comes behind the rest.
         ensures stop { IfErr result (λ fault. (more : List ℕ)
-            → IsStop fault self.old.memory self.old.number ((self.old.partial.items ++ rest.now) ++ more)
+            → IsStop fault (memory_of self.old.book) self.old.number ((self.old.partial.items ++ rest.now) ++ more)
             self.old.waiting.items (W.written writer.old) (W.written writer.new)) }
         ensures failed { result ≡ Err RunFault.Write → W.failures writer.old < W.failures writer.new }
     {
@@ -226,8 +221,8 @@ impl Run {
         requires short { vec_len self.old.partial ≤ line_limit }
         requires none { self.old.waiting.items ≡ [] }
         ensures served { OnOk result ((made : List ℕ)
-            × Serves self.old.memory self.old.number (self.old.partial.items ++ text.now) made
-            self.new.memory self.new.number self.new.partial.items
+            × Serves (memory_of self.old.book) self.old.number (self.old.partial.items ++ text.now) made
+            (memory_of self.new.book) self.new.number self.new.partial.items
             × Awaits (W.written writer.old) (W.written writer.new) [] made) }
         ensures number { OnOk result (self.new.number + vec_len self.new.partial
             ≤ self.old.number + vec_len self.old.partial + length text.now) }
@@ -238,7 +233,7 @@ impl Run {
         ensures ready { OnOk result (W.can_write writer.new) }
         // Whatever comes behind the text.
         ensures stop { IfErr result (λ fault. (more : List ℕ)
-            → IsStop fault self.old.memory self.old.number ((self.old.partial.items ++ text.now) ++ more) []
+            → IsStop fault (memory_of self.old.book) self.old.number ((self.old.partial.items ++ text.now) ++ more) []
             (W.written writer.old) (W.written writer.new)) }
         ensures failed { result ≡ Err RunFault.Write → W.failures writer.old < W.failures writer.new }
     {
@@ -262,9 +257,9 @@ impl Run {
         requires one_line { IsOneLine self.old.partial.items }
         requires none { self.old.waiting.items ≡ [] }
         ensures written { OnOk result (Awaits (W.written writer.old) (W.written writer.new) []
-            (text_of self.old.memory self.old.number self.old.partial.items)) }
+            (text_of (memory_of self.old.book) self.old.number self.old.partial.items)) }
         ensures good { OnOk result (bad_line_of self.old.number self.old.partial.items ≡ None) }
-        ensures stop { IfErr result (λ fault. IsStop fault self.old.memory self.old.number self.old.partial.items []
+        ensures stop { IfErr result (λ fault. IsStop fault (memory_of self.old.book) self.old.number self.old.partial.items []
             (W.written writer.old) (W.written writer.new)) }
         ensures failed { result ≡ Err RunFault.Write → W.failures writer.old < W.failures writer.new }
     {

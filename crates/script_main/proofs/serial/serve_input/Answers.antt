@@ -2,6 +2,7 @@ use Rattle.std.proofs.Common.{◌≡◌, ◌<◌, ◌++◌, [], List, ℕ, Resul
 use Rattle.std.specs.Io.KnownBytes.{Consumes}
 use Rattle.std.proofs.lemmas.List.{length-take}
 use Rattle.std.proofs.lemmas.Result.{err_from_is_err_and}
+use Rattle.call_history.specs.Books.{memory_of}
 use Rattle.script_main.specs.declared.fault.RunFault.{RunFault}
 use Rattle.script_main.specs.Scripts.{IsOneLine}
 use Rattle.script_main.specs.Runs.{Runs, IsStop, IsCounted}
@@ -11,7 +12,7 @@ use Rattle.script_main.proofs.serial.serve_input.Goals as goal
 
 pub loop-run-init : goal.loop-run-init
 loop-run-init g c =
-    let memory = c.args.run.now.memory in
+    let memory = memory_of c.args.run.now.book in
     let input = g.R.Source.rest c.args.reader.now in
     let old = g.W.Sink.written c.args.writer.now in
     let run = c.args.run.now in
@@ -42,7 +43,7 @@ returns-in-Ok-eq0-clause-runs g c =
     let zero : c.in-Ok-eq0.field-0 ≡ 0 = omega arith in
     let consumed : Consumes left rest [] = subst (λ (n : ℕ). Consumes left rest (take n c.read.new.buffer)) zero bytes.0 in
     let some : 0 < length c.read.new.buffer = omega (arith, c.read.ensures.len, kept.block) in
-    Progress-last c.args.run.now.memory run.memory run.number run.partial.items (g.W.Sink.written c.args.writer.now) (g.W.Sink.written c.loop-run.writer) (g.W.Sink.written c.serve_last.new.writer) (g.R.Source.rest c.read.new.self)
+    Progress-last (memory_of c.args.run.now.book) (memory_of run.book) run.number run.partial.items (g.W.Sink.written c.args.writer.now) (g.W.Sink.written c.loop-run.writer) (g.W.Sink.written c.serve_last.new.writer) (g.R.Source.rest c.read.new.self)
     c.serve_last.result (g.R.Source.rest c.args.reader.now) (g.R.Source.rest c.loop-run.reader) kept.progress consumed (bytes.1 zero some) said.written said.good said.stop
 
 pub returns-in-Ok-eq0-clause-counted : goal.returns-in-Ok-eq0-clause-counted
@@ -54,7 +55,7 @@ returns-in-Ok-eq0-clause-counted g c =
     let writes' = g.W.Sink.failures c.serve_last.new.writer in
     subst (λ (n : ℕ). IsCounted c.serve_last.result reads reads' n writes') kept.writes
     (counted-served c.serve_last.result reads reads' (g.W.Sink.failures c.loop-run.writer) writes'
-    (λ f. IsStop f run.memory run.number run.partial.items [] (g.W.Sink.written c.loop-run.writer) (g.W.Sink.written c.serve_last.new.writer)) (λ never. never) c.serve_last.ensures.stop c.serve_last.ensures.failed)
+    (λ f. IsStop f (memory_of run.book) run.number run.partial.items [] (g.W.Sink.written c.loop-run.writer) (g.W.Sink.written c.serve_last.new.writer)) (λ never. never) c.serve_last.ensures.stop c.serve_last.ensures.failed)
 
 pub loop-run-preserved : goal.loop-run-preserved
 loop-run-preserved g c =
@@ -78,8 +79,8 @@ loop-run-preserved g c =
       one_line = said.one_line;
       short = said.short;
       none = said.none;
-      progress = Progress-read c.args.run.now.memory (g.R.Source.rest c.args.reader.now) left rest (g.W.Sink.written c.args.writer.now) (g.W.Sink.written c.loop-run.writer) (g.W.Sink.written c.serve_block.new.writer)
-          run.memory run.number run.partial.items got said.served.0 next.memory next.number next.partial.items kept.progress consumed said.served.1 said.served.2;
+      progress = Progress-read (memory_of c.args.run.now.book) (g.R.Source.rest c.args.reader.now) left rest (g.W.Sink.written c.args.writer.now) (g.W.Sink.written c.loop-run.writer) (g.W.Sink.written c.serve_block.new.writer)
+          (memory_of run.book) run.number run.partial.items got said.served.0 (memory_of next.book) next.number next.partial.items kept.progress consumed said.served.1 said.served.2;
     }
 
 pub returns-in_err-serve_block-in-Ok-clause-runs : goal.returns-in_err-serve_block-in-Ok-clause-runs
@@ -98,8 +99,8 @@ returns-in_err-serve_block-in-Ok-clause-runs g c =
     let fault = c.in_err-serve_block-in-Ok.field-0.0 in
     let given = err_from_is_err_and c.from_residual.result c.from_residual.ensures.1 in
     let is : c.from_residual.result ≡ Err fault = given.1 ∙ ap (λ (f : RunFault). Err f) given.2 in
-    subst (λ (r : Result (Unit {0}) RunFault). IfSome input (λ (script : List ℕ). Runs r c.args.run.now.memory script rest old new)) (sym is)
-    (Progress-stop fault c.args.run.now.memory input left rest old mid new run.memory run.number run.partial.items got kept.progress consumed c.in_err-serve_block-in-Ok.ensures.stop)
+    subst (λ (r : Result (Unit {0}) RunFault). IfSome input (λ (script : List ℕ). Runs r (memory_of c.args.run.now.book) script rest old new)) (sym is)
+    (Progress-stop fault (memory_of c.args.run.now.book) input left rest old mid new (memory_of run.book) run.number run.partial.items got kept.progress consumed c.in_err-serve_block-in-Ok.ensures.stop)
 
 pub returns-in_err-serve_block-in-Ok-clause-counted : goal.returns-in_err-serve_block-in-Ok-clause-counted
 returns-in_err-serve_block-in-Ok-clause-counted g c =
@@ -112,7 +113,7 @@ returns-in_err-serve_block-in-Ok-clause-counted g c =
     let text = (run.partial.items ++ take c.in-Ok.count c.read.new.buffer) ++ [] in
     let failed = c.in_err-serve_block-in-Ok.field-0.0 in
     let given = err_from_is_err_and c.from_residual.result c.from_residual.ensures.1 in
-    let Stops = λ (f : RunFault). IsStop f run.memory run.number text [] (g.W.Sink.written c.loop-run.writer) (g.W.Sink.written c.serve_block.new.writer) in
+    let Stops = λ (f : RunFault). IsStop f (memory_of run.book) run.number text [] (g.W.Sink.written c.loop-run.writer) (g.W.Sink.written c.serve_block.new.writer) in
     let is_failed : c.from_residual.result ≡ Err failed = given.1 ∙ ap (λ (f : RunFault). Err f) given.2 in
     let stop = handed-out c.from_residual.result Stops failed given.0 given.1 given.2 (c.in_err-serve_block-in-Ok.ensures.stop []) in
     subst (λ (n : ℕ). IsCounted c.from_residual.result reads reads' n writes') kept.writes
@@ -122,5 +123,5 @@ pub returns-in-Err-clause-runs : goal.returns-in-Err-clause-runs
 returns-in-Err-clause-runs g c =
     let run = c.loop-run.run in
     let kept = c.loop-run.invariant in
-    Progress-read_stop c.args.run.now.memory (g.R.Source.rest c.args.reader.now) (g.R.Source.rest c.loop-run.reader) (g.R.Source.rest c.read.new.self) (g.W.Sink.written c.args.writer.now) (g.W.Sink.written c.loop-run.writer)
-    run.memory run.number run.partial.items kept.progress kept.one_line c.in-Err.ensures.bytes
+    Progress-read_stop (memory_of c.args.run.now.book) (g.R.Source.rest c.args.reader.now) (g.R.Source.rest c.loop-run.reader) (g.R.Source.rest c.read.new.self) (g.W.Sink.written c.args.writer.now) (g.W.Sink.written c.loop-run.writer)
+    (memory_of run.book) run.number run.partial.items kept.progress kept.one_line c.in-Err.ensures.bytes

@@ -1,4 +1,5 @@
 use Rattle.std.proofs.Common.{◌≡◌, ◌≤◌, ◌<◌, ◌+◌, ◌^◌, [], length, vec_len}
+use Rattle.call_history.specs.Books.{memory_of}
 use Rattle.script_main.specs.Scripts.{IsOneLine, line_limit}
 use Rattle.script_main.proofs.Progress.{Progress}
 use Rattle.script_main.proofs.serial.serve_input.Given as goal
@@ -14,7 +15,7 @@ invariant-loop-run g l = record {
   one_line : IsOneLine l.run.partial.items;
   short : vec_len l.run.partial ≤ line_limit;
   none : l.run.waiting.items ≡ [];
-  progress : Progress (l.fn.run.memory) (g.R.Source.rest l.fn.reader) (g.R.Source.rest l.reader) (g.W.Sink.written l.fn.writer) (g.W.Sink.written l.writer) l.run.memory l.run.number l.run.partial.items;
+  progress : Progress (memory_of l.fn.run.book) (g.R.Source.rest l.fn.reader) (g.R.Source.rest l.reader) (g.W.Sink.written l.fn.writer) (g.W.Sink.written l.writer) (memory_of l.run.book) l.run.number l.run.partial.items;
 }
 
 abbrev pub decreases-loop-run : goal.decreases-loop-run

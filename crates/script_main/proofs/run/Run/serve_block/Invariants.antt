@@ -1,4 +1,5 @@
 use Rattle.std.proofs.Common.{◌≡◌, ◌≤◌, ◌+◌, ◌++◌, ℕ, List, length, vec_len}
+use Rattle.call_history.specs.Books.{memory_of}
 use Rattle.script_main.specs.Scripts.{IsOneLine, line_limit}
 use Rattle.script_main.specs.Streams.{Awaits}
 use Rattle.script_main.specs.Runs.{Serves}
@@ -12,7 +13,7 @@ invariant-loop-end g l = record {
   one_line : IsOneLine l.self.partial.items;
   short : vec_len l.self.partial ≤ line_limit;
   served : (made : List ℕ)
-      × Serves l.fn.self.memory l.fn.self.number (l.fn.self.partial.items ++ l.text) made l.self.memory l.self.number (l.self.partial.items ++ l.rest)
+      × Serves (memory_of l.fn.self.book) l.fn.self.number (l.fn.self.partial.items ++ l.text) made (memory_of l.self.book) l.self.number (l.self.partial.items ++ l.rest)
       × Awaits (g.W.Sink.written l.fn.writer) (g.W.Sink.written l.writer) l.self.waiting.items made;
 }
 

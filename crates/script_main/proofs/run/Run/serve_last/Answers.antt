@@ -1,6 +1,7 @@
 use Rattle.std.proofs.Common.{◌≡◌, ◌<◌, ◌++◌, [], List, ℕ, length, vec_len, sym, ap, ◌∙◌, subst, arith, rules}
 use Rattle.std.proofs.lemmas.List.{nil_from_length}
 use Rattle.std.proofs.lemmas.Result.{err_from_is_err_and}
+use Rattle.call_history.specs.Books.{memory_of}
 use Rattle.script_main.specs.declared.fault.RunFault.{RunFault}
 use Rattle.script_main.specs.Scripts.{line_of, line_text, text_of, bad_line_of}
 use Rattle.script_main.specs.Runs.{IsStop}
@@ -17,7 +18,7 @@ returns-then-is_empty-clause-written g c =
     let zero : vec_len run.partial ≡ 0 = search rules in
     let none : length run.partial.items ≡ 0 = omega (arith, run.partial.ok.0) in
     let empty = nil_from_length run.partial.items none in
-    subst (λ (t : List ℕ). Awaits old old [] t) (sym (ap (text_of run.memory run.number) empty ∙ text_of-nothing run.memory run.number)) (Awaits-start old [])
+    subst (λ (t : List ℕ). Awaits old old [] t) (sym (ap (text_of (memory_of run.book) run.number) empty ∙ text_of-nothing (memory_of run.book) run.number)) (Awaits-start old [])
 
 pub returns-then-is_empty-clause-good : goal.returns-then-is_empty-clause-good
 returns-then-is_empty-clause-good g c =
@@ -36,9 +37,9 @@ returns-in_err-serve_next-clause-stop g c =
     let given = err_from_is_err_and c.from_residual.result c.from_residual.ensures.1 in
     let full : 0 < vec_len run.partial = search rules in
     let some : 0 < length partial = omega (arith, run.partial.ok.0) in
-    let stopped = c.in_err-serve_next.ensures.stop partial [] (lines_of-only run.memory run.number partial c.requires.one_line some) in
-    handed-out c.from_residual.result (λ (f : RunFault). IsStop f run.memory run.number partial [] old new) fault given.0 given.1 given.2
-    (subst (λ (t : List ℕ). IsStop fault run.memory run.number partial t old new) c.requires.none stopped)
+    let stopped = c.in_err-serve_next.ensures.stop partial [] (lines_of-only (memory_of run.book) run.number partial c.requires.one_line some) in
+    handed-out c.from_residual.result (λ (f : RunFault). IsStop f (memory_of run.book) run.number partial [] old new) fault given.0 given.1 given.2
+    (subst (λ (t : List ℕ). IsStop fault (memory_of run.book) run.number partial t old new) c.requires.none stopped)
 
 pub returns-in-Ok-clause-written : goal.returns-in-Ok-clause-written
 returns-in-Ok-clause-written g c =
@@ -48,19 +49,19 @@ returns-in-Ok-clause-written g c =
     let mid = g.W.Sink.written c.serve_next.new.writer in
     let new = g.W.Sink.written c.flush.new.writer in
     let waiting = c.serve_next.new.self.waiting.items in
-    let text = line_text run.memory (line_of (partial ++ [])) in
+    let text = line_text (memory_of run.book) (line_of (partial ++ [])) in
     let said = c.in_ok-serve_next.ensures in
     let full : 0 < vec_len run.partial = search rules in
     let some : 0 < length partial = omega (arith, run.partial.ok.0) in
     let waits : Awaits old mid waiting text = subst (λ (t : List ℕ). Awaits old mid waiting (t ++ text)) c.requires.none said.text in
-    subst (λ (t : List ℕ). Awaits old new [] t) (sym (text_of-only run.memory run.number partial c.requires.one_line some said.good)) (Awaits-done old mid new waiting text waits c.in-Ok.ensures.written)
+    subst (λ (t : List ℕ). Awaits old new [] t) (sym (text_of-only (memory_of run.book) run.number partial c.requires.one_line some said.good)) (Awaits-done old mid new waiting text waits c.in-Ok.ensures.written)
 
 pub returns-in-Ok-clause-good : goal.returns-in-Ok-clause-good
 returns-in-Ok-clause-good g c =
     let run = c.args.self.now in
     let full : 0 < vec_len run.partial = search rules in
     let some : 0 < length run.partial.items = omega (arith, run.partial.ok.0) in
-    bad_line_of-only run.memory run.number run.partial.items c.requires.one_line some c.in_ok-serve_next.ensures.good
+    bad_line_of-only (memory_of run.book) run.number run.partial.items c.requires.one_line some c.in_ok-serve_next.ensures.good
 
 pub returns-in-Err-clause-stop : goal.returns-in-Err-clause-stop
 returns-in-Err-clause-stop g c =
@@ -70,9 +71,9 @@ returns-in-Err-clause-stop g c =
     let mid = g.W.Sink.written c.serve_next.new.writer in
     let new = g.W.Sink.written c.flush.new.writer in
     let waiting = c.serve_next.new.self.waiting.items in
-    let text = line_text run.memory (line_of (partial ++ [])) in
+    let text = line_text (memory_of run.book) (line_of (partial ++ [])) in
     let said = c.in_ok-serve_next.ensures in
     let full : 0 < vec_len run.partial = search rules in
     let some : 0 < length partial = omega (arith, run.partial.ok.0) in
     let waits : Awaits old mid waiting text = subst (λ (t : List ℕ). Awaits old mid waiting (t ++ text)) c.requires.none said.text in
-    subst (λ (t : List ℕ). HasBegun old new t) (sym (text_of-only run.memory run.number partial c.requires.one_line some said.good)) (HasBegun-done old mid new waiting text waits c.in-Err.ensures.begun)
+    subst (λ (t : List ℕ). HasBegun old new t) (sym (text_of-only (memory_of run.book) run.number partial c.requires.one_line some said.good)) (HasBegun-done old mid new waiting text waits c.in-Err.ensures.begun)
