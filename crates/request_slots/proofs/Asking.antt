@@ -1,0 +1,207 @@
+-- A caller's own steps keep the rule: it posts, and it collects.
+-- `posts` and `collects` are what the table asks of the two steps.
+use Rattle.std.proofs.Common.{◌≡◌, ◌≢◌, ℕ, ◌+◌, ◌<◌, Bool, true, false, List, [], ◌∷◌, ◌++◌, length, take, get_or, eqb, None, refl, sym, ap, ◌∙◌, subst, ⊎_elim, inl, arith, eq-eqb, ne_eqb}
+use mathlib.Core.Logic.{dite}
+use mathlib.Core.Option.{some, none}
+use native.Mathlib.Decide.{ℕ_discrete}
+use lib.ListN.{get_elem?}
+use prog.Atomic.{either}
+use Rattle.atomic_table.specs.Table.{State, step, keeps, takes, gives, stepped, Allows, rest}
+use Rattle.atomic_table.proofs.Lists.{set_again}
+use Rattle.cvl_text.specs.declared.call.Call.{Call}
+use Rattle.call_history.specs.declared.entry.Entry.{Entry}
+use Rattle.call_history.specs.History.{Begins}
+use Rattle.call_history.specs.Callers.{calls_by}
+use Rattle.call_history.specs.Fits.{Fate, StandsAt, CameBack, fate_of}
+use Rattle.call_history.proofs.Beginnings.{begins_self, begins_empty, take_begins, length_of_take}
+use Rattle.call_history.proofs.CallerLemmas.{calls_stay, calls_between}
+use Rattle.request_slots.specs.declared.desk.Slot.{Slot}
+use Rattle.request_slots.specs.declared.desk.Slot.TheVariants.{Asked, Told}
+use Rattle.request_slots.specs.declared.known.Known.{Known}
+use Rattle.request_slots.specs.declared.known.Phase.TheVariants.{Idle, Left}
+use Rattle.request_slots.specs.declared.known.View.{View}
+use Rattle.request_slots.specs.declared.known.View.TheVariants.{Caller}
+use Rattle.request_slots.specs.Stages.{Stage, unmade, idle, posted, taken, done, code, Station}
+use Rattle.request_slots.specs.Passes.{pass_of, part_of}
+use Rattle.request_slots.specs.Locks.{HolderSits}
+use Rattle.request_slots.specs.Requests.{StageHolds, FateHolds, request_at}
+use Rattle.request_slots.specs.Phases.{PhaseHolds}
+use Rattle.request_slots.specs.Lawful.{CallerKnows, Knows, Lawful}
+use Rattle.request_slots.specs.Views.{known_of, leaving, left_calls, left_start, longer, Collected}
+use Rattle.request_slots.specs.Events.{Sat, calls_in_hand, Posts, Collects}
+use Rattle.request_slots.proofs.Stations.{put, put_here, put_rises, put_abides, put_seat, notes_rise, others_know}
+use Rattle.request_slots.proofs.Holders.{holder_follows}
+use Rattle.request_slots.proofs.Carrying.{caller_step, view_step, moved}
+use Rattle.request_slots.proofs.Looking.{longer_begins, not_true}
+
+code_done : (stage : Stage) → code stage ≡ 4 → stage ≡ done
+code_done unmade e = absurd (omega arith)
+code_done idle e = absurd (omega arith)
+code_done posted e = absurd (omega arith)
+code_done taken e = absurd (omega arith)
+code_done done e = refl
+
+module _ (room : ℕ) (s : State Slot View) (r : Lawful room s) (id : ℕ) (c : Known) (there : get_elem? s.views id ≡ some (Caller c)) where
+  abbrev knows : Knows room r.n r.made r.line r.lock r.station id (Caller c)
+  knows = r.each_seat id (Caller c) there
+
+  abbrev here : Station
+  here = r.station c.number
+
+  inside : c.number < r.n
+  inside = knows.inside
+
+  idle_word : c.phase ≡ Idle → get_or s.words (c.number + 2) 0 ≡ 1
+  idle_word at_rest = let phase = subst (PhaseHolds c.number c.seen c.own here) at_rest knows.phase in (r.each_caller c.number inside).word_is ∙ ap code phase.stage_is
+
+  -- the station of a caller that leaves these calls
+  abbrev posting : List Call → Station
+  posting calls = record { stage = posted; seat = here.seat; own = here.own; calls = calls; start = c.seen; held = here.held }
+
+  -- the seats other than the caller's, after a step that moves only its own station
+  abbrev others_stay : (st : Station) → ((r.station c.number).held ≡ true → st.held ≡ true)
+      → (j : ℕ) → j ≢ id → (v : View) → Knows room r.n r.made r.line r.lock r.station j v → Knows room r.n r.made r.line r.lock (put r.station c.number st) j v
+  others_stay st up = others_know room r.n r.made r.line r.line r.lock r.lock r.station (put r.station c.number st) c.number id knows.seat_is (begins_self r.line) (λ i other. refl)
+      (put_abides r.station c.number st) (put_rises r.station c.number st up)
+
+  post_keeps : (call : Call) → c.phase ≡ Idle → c.pass ≡ None → Lawful room (moved s c.number 2 (some (Asked call)) id (Caller (leaving c (call ∷ []))))
+  post_keeps call at_rest no_pass =
+      let st : Station = posting (call ∷ []) in
+      let held = r.each_caller c.number inside in
+      let phase = subst (PhaseHolds c.number c.seen c.own here) at_rest knows.phase in
+      let stage = subst (StageHolds room r.line (part_of r.lock c.number) (get_elem? s.homes (c.number + 1)) c.number here) phase.stage_is held.stage_holds in
+      let rises = put_rises r.station c.number st (λ e. e) in
+      caller_step room s r c.number 2 (some (Asked call)) st r.lock id (Caller (leaving c (call ∷ []))) inside knows.number_made (λ i other. refl)
+      record {
+        word_is = refl;
+        request_is = held.request_is ∙ ap (λ (z : Stage). request_at z here.calls) phase.stage_is;
+        stage_holds = record { call = call; home_is = refl; calls_are = refl; begins = knows.fronts.seen_begins; own_is = stage.own_is };
+      }
+      r.lock_holds
+      (subst (λ (z : Station). CallerKnows room r.n r.made r.line (pass_of r.lock c.number) z (λ m. (put r.station c.number st m).held) id (leaving c (call ∷ []))) (sym (put_here r.station c.number st)) record {
+        number_made = knows.number_made;
+        inside = knows.inside;
+        seat_is = knows.seat_is;
+        room_is = knows.room_is;
+        own_is = knows.own_is;
+        fronts = record { seen_begins = knows.fronts.seen_begins; told_begins = knows.fronts.told_begins; start_begins = knows.fronts.seen_begins };
+        pass_is = knows.pass_is;
+        phase = record { left = refl; calls_are = refl; start_is = refl; begins = begins_self c.seen; own_is = inl phase.own_is; request = refl };
+        settled = record { done = λ e. absurd (cc (knows.settled.done e, phase.stage_is)); tried = λ p e _ _. absurd (cc (e, no_pass)) };
+        notes = notes_rise r.n c.number c.held here.held here.held c.met c.pass (λ m. (r.station m).held) (λ m. (put r.station c.number st m).held) refl rises knows.notes;
+      })
+      (others_stay st (λ e. e))
+      (holder_follows s.views r.station (put r.station c.number st) r.lock id c (leaving c (call ∷ [])) there refl (put_seat r.station c.number st refl) knows.seat_is knows.pass_is r.holder_sits)
+
+  -- what the caller knows once it has its outcome
+  abbrev collected : List Entry → List Call → Known
+  collected seen own = record c { seen = seen; own = own; phase = Idle; settled = false }
+
+  collect_keeps : (seen : List Entry) (own : List Call) → here.stage ≡ done → Begins seen r.line → calls_by c.number seen ≡ own → calls_by c.number r.line ≡ own
+      → Lawful room (moved s c.number 1 none id (Caller (collected seen own)))
+  collect_keeps seen own at_end saw had has =
+      let st : Station = record { stage = idle; seat = here.seat; own = own; calls = here.calls; start = here.start; held = here.held } in
+      let held = r.each_caller c.number inside in
+      let rises = put_rises r.station c.number st (λ e. e) in
+      caller_step room s r c.number 1 none st r.lock id (Caller (collected seen own)) inside knows.number_made (λ i other. refl)
+      record {
+        word_is = refl;
+        request_is = held.request_is ∙ ap (λ (z : Stage). request_at z here.calls) at_end;
+        stage_holds = record { home_is = refl; own_is = has };
+      }
+      r.lock_holds
+      (subst (λ (z : Station). CallerKnows room r.n r.made r.line (pass_of r.lock c.number) z (λ m. (put r.station c.number st m).held) id (collected seen own)) (sym (put_here r.station c.number st)) record {
+        number_made = knows.number_made;
+        inside = knows.inside;
+        seat_is = knows.seat_is;
+        room_is = knows.room_is;
+        own_is = refl;
+        fronts = record { seen_begins = saw; told_begins = knows.fronts.told_begins; start_begins = begins_empty r.line };
+        pass_is = knows.pass_is;
+        phase = record { stage_is = refl; own_is = had };
+        settled = record { done = λ e. absurd (cc e); tried = λ p e _ post. absurd (cc post) };
+        notes = notes_rise r.n c.number c.held here.held here.held c.met c.pass (λ m. (r.station m).held) (λ m. (put r.station c.number st m).held) refl rises knows.notes;
+      })
+      (others_stay st (λ e. e))
+      (holder_follows s.views r.station (put r.station c.number st) r.lock id c (collected seen own) there refl (put_seat r.station c.number st refl) knows.seat_is knows.pass_is r.holder_sits)
+
+  -- the outcome of the calls that were left gives the caller's new front and record
+  collect_fate : (calls : List Call) (start : List Entry) → c.phase ≡ Left calls start → (fate : Fate) → FateHolds room r.line c.number here.own here.calls here.start fate
+      → (seen : List Entry) × (own : List Call) × Begins seen r.line × (calls_by c.number seen ≡ own) × (calls_by c.number r.line ≡ own) × Collected c calls start fate (collected seen own)
+  collect_fate calls start is (StandsAt place replies) h =
+      let phase = subst (PhaseHolds c.number c.seen c.own here) is knows.phase in
+      let f = subst (λ (z : ℕ × List Call × (List Call) × List Entry). FateHolds z.0 r.line c.number z.1 z.2 z.3 (StandsAt place replies))
+      (λ j. (sym knows.room_is j, sym knows.own_is j, sym phase.calls_are j, sym phase.start_is j)) h in
+      let history : List Entry = take (place + length calls) r.line in
+      let both = longer_begins c.seen history r.line knows.fronts.seen_begins (take_begins (place + length calls) r.line) in (
+        longer c.seen history,
+        c.own ++ calls,
+        both.2,
+        calls_between c.number history (longer c.seen history) r.line (c.own ++ calls) both.1 both.2 f.1.owns f.2,
+        f.2,
+        (history, length_of_take (place + length calls) r.line f.0, f.1, both.0, both.1, refl),
+      )
+  collect_fate calls start is (CameBack back) h =
+      let phase = subst (PhaseHolds c.number c.seen c.own here) is knows.phase in
+      let none_new : calls_by c.number r.line ≡ c.own = h.1 ∙ sym knows.own_is in (
+        c.seen,
+        c.own,
+        knows.fronts.seen_begins,
+        ⊎_elim (λ (e : calls_by c.number c.seen ≡ c.own). e) (λ (e : calls_by c.number c.seen ≡ c.own ++ calls). calls_stay c.number c.seen r.line c.own calls knows.fronts.seen_begins e none_new) phase.own_is,
+        none_new,
+        (h.0 ∙ sym phase.calls_are, refl),
+      )
+
+posts_at : (room slots id : ℕ) (me : Sat) (call : Call) → let c : Known = known_of me.0 in me.0 ≡ Caller c → c.phase ≡ Idle → c.pass ≡ None → me.1 ≡ (c.number + 1, Asked call) ∷ rest me.1
+    → Allows (Lawful room) slots id me (c.number + 2) (λ x. either (eqb x 1) 2 x) (Posts (step slots (c.number + 2) 1 2 none) me)
+posts_at room slots id me call is at_rest no_pass hand s r deep at small =
+    let c : Known = known_of me.0 in let i : ℕ = c.number + 2 in let x : ℕ = get_or s.words i 0 in
+    let there : get_elem? s.views id ≡ some (Caller c) = at ∙ ap (λ (v : View). some v) is in
+    let found : x ≡ 1 = idle_word room s r id c there at_rest in (
+      Caller (leaving c (calls_in_hand me.1)),
+      gives,
+      tt,
+      subst (λ (z : Bool × List (ℕ × Slot)). Lawful room (stepped s i (either z.0 2 x) id z.1 (Caller (leaving c (calls_in_hand z.1))) gives))
+          (λ j. (sym (eq-eqb x 1 found) j, sym hand j)) (post_keeps room s r id c there call at_rest no_pass),
+      (found, refl, refl),
+    )
+
+collects_at : (room slots id : ℕ) (me : Sat) → let c : Known = known_of me.0 in me.0 ≡ Caller c → c.phase ≡ Left (left_calls c.phase) (left_start c.phase)
+    → Allows (Lawful room) slots id me (c.number + 2) (λ x. either (eqb x 4) 1 x) (Collects (step slots (c.number + 2) 4 1 none) me)
+collects_at room slots id me is left s r deep at small =
+    let c : Known = known_of me.0 in let i : ℕ = c.number + 2 in let x : ℕ = get_or s.words i 0 in
+    let there : get_elem? s.views id ≡ some (Caller c) = at ∙ ap (λ (v : View). some v) is in
+    let knows = r.each_seat id (Caller c) there in
+    let held = r.each_caller c.number (inside room s r id c there) in
+    dite (ℕ_discrete x 4)
+    (λ hit. let at_end = code_done (r.station c.number).stage (sym held.word_is ∙ hit) in
+    let told = subst (StageHolds room r.line (part_of r.lock c.number) (get_elem? s.homes (c.number + 1)) c.number (r.station c.number)) at_end held.stage_holds in
+    let new = collect_fate room s r id c there (left_calls c.phase) (left_start c.phase) left (fate_of told.outcome) told.fate in (
+      Caller (collected room s r id c there new.0 new.1),
+      takes (c.number + 1) (Told told.outcome),
+      told.home_is,
+      subst (λ b. Lawful room (stepped s i (either b 1 x) id me.1 (Caller (collected room s r id c there new.0 new.1)) (takes (c.number + 1) (Told told.outcome)))) (sym (eq-eqb x 4 hit))
+          (collect_keeps room s r id c there new.0 new.1 at_end new.2 new.3 new.4),
+      ((λ _. (told.outcome, collected room s r id c there new.0 new.1, refl, refl, new.5, λ _. (new.3, refl))), λ miss. absurd (miss hit)),
+    ))
+    (λ miss. (
+      me.0,
+      keeps,
+      tt,
+      subst (λ b. Lawful room (stepped s i (either b 1 x) id me.1 me.0 keeps)) (sym (ne_eqb x 4 miss))
+          (view_step room s r i id me.0 (r.each_seat id me.0 at) (subst (λ vs. HolderSits vs r.station r.lock) (sym (set_again s.views id me.0 at)) r.holder_sits)),
+      ((λ hit. absurd (miss hit)), λ _. (refl, not_true c.settled (λ e. miss (held.word_is ∙ ap code (knows.settled.done e))))),
+    ))
+
+-- the same for a caller of this number, which has put its call into its slot
+pub posts : (room slots id k : ℕ) (old me : Sat) (call : Call) → me ≡ (old.0, (k + 1, Asked call) ∷ rest old.1) → old.0 ≡ Caller (known_of old.0) → (known_of old.0).number ≡ k
+    → (known_of old.0).phase ≡ Idle → (known_of old.0).pass ≡ None → Allows (Lawful room) slots id me (k + 2) (λ x. either (eqb x 1) 2 x) (Posts (step slots (k + 2) 1 2 none) me)
+posts room slots id k old me call put is number at_rest no_pass =
+    subst (λ (m : Sat). Allows (Lawful room) slots id m (k + 2) (λ x. either (eqb x 1) 2 x) (Posts (step slots (k + 2) 1 2 none) m)) (sym put)
+    (subst (λ (z : ℕ). Allows (Lawful room) slots id (old.0, (z + 1, Asked call) ∷ rest old.1) (z + 2) (λ x. either (eqb x 1) 2 x) (Posts (step slots (z + 2) 1 2 none) (old.0, (z + 1, Asked call) ∷ rest old.1)))
+    number (posts_at room slots id (old.0, ((known_of old.0).number + 1, Asked call) ∷ rest old.1) call is at_rest no_pass refl))
+
+pub collects : (room slots id k : ℕ) (me : Sat) → me.0 ≡ Caller (known_of me.0) → (known_of me.0).number ≡ k → (known_of me.0).phase ≡ Left (left_calls (known_of me.0).phase) (left_start (known_of me.0).phase)
+    → Allows (Lawful room) slots id me (k + 2) (λ x. either (eqb x 4) 1 x) (Collects (step slots (k + 2) 4 1 none) me)
+collects room slots id k me is number left =
+    subst (λ (z : ℕ). Allows (Lawful room) slots id me (z + 2) (λ x. either (eqb x 4) 1 x) (Collects (step slots (z + 2) 4 1 none) me)) number (collects_at room slots id me is left)

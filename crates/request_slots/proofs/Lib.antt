@@ -1,0 +1,17 @@
+pub mod Stations
+pub mod Holders
+pub mod Carrying
+pub mod RequestLists
+pub mod Hands
+pub mod Sitting
+pub mod Looking
+pub mod Asking
+pub mod Locking
+pub mod Unlocking
+pub mod Passing
+pub mod Taking
+pub mod Committing
+pub mod Telling
+pub mod Making
+pub mod WholePass
+pub mod Hearing

@@ -1,0 +1,178 @@
+-- A try at the lock keeps the rule, whether the desk is taken or another caller is found to have it.
+-- `locks` is what the table asks of the step.
+use Rattle.std.proofs.Common.{◌≡◌, ◌≢◌, ◌⊎◌, ℕ, ◌+◌, ◌<◌, Bool, true, List, [], ◌++◌, get_or, eqb, Option, Some, None, refl, sym, ap, ◌∙◌, subst, ⊎_elim, inl, arith, eq-eqb, ne_eqb}
+use mathlib.Core.Logic.{dite}
+use mathlib.Core.Option.{some, none}
+use native.Mathlib.Decide.{ℕ_discrete}
+use lib.ListN.{get_elem?}
+use prog.Atomic.{either}
+use Rattle.atomic_table.specs.Table.{State, step, Act, keeps, takes, stepped, Valid, carried_after, Allows}
+use Rattle.cvl_text.specs.declared.call.Call.{Call}
+use Rattle.call_history.specs.declared.entry.Entry.{Entry}
+use Rattle.call_history.specs.History.{Begins}
+use Rattle.call_history.specs.Callers.{calls_by}
+use Rattle.call_history.proofs.Beginnings.{begins_self}
+use Rattle.request_slots.specs.declared.desk.Slot.{Slot}
+use Rattle.request_slots.specs.declared.desk.Slot.TheVariants.{Kept}
+use Rattle.request_slots.specs.declared.desk.Desk.{Desk}
+use Rattle.request_slots.specs.declared.known.Pass.{Pass}
+use Rattle.request_slots.specs.declared.known.Known.{Known}
+use Rattle.request_slots.specs.declared.known.Phase.{Phase}
+use Rattle.request_slots.specs.declared.known.Phase.TheVariants.{Idle, Left}
+use Rattle.request_slots.specs.declared.known.View.{View}
+use Rattle.request_slots.specs.declared.known.View.TheVariants.{Caller}
+use Rattle.request_slots.specs.Stages.{Station}
+use Rattle.request_slots.specs.Passes.{Lock, free, held_by, pass_of, is_in, part_of, fresh_pass}
+use Rattle.request_slots.specs.Locks.{DeskRests, LockHolds}
+use Rattle.request_slots.specs.Requests.{CallerHolds}
+use Rattle.request_slots.specs.Phases.{PhaseHolds}
+use Rattle.request_slots.specs.Lawful.{IsNotMade, CallerKnows, Knows, Lawful}
+use Rattle.request_slots.specs.Views.{known_of, left_calls, locking, meeting, OwnCallsIn, ShowsLine}
+use Rattle.request_slots.specs.Events.{Sat, Locks}
+use Rattle.request_slots.proofs.Stations.{put, put_here, put_else, put_rises, put_abides, others_know}
+use Rattle.request_slots.proofs.Holders.{pass_elsewhere, pass_there, holder_begins, holder_follows, holder_has_held}
+use Rattle.request_slots.proofs.Carrying.{noted, part_free, lock_step, relocked, handed, view_step}
+use Rattle.request_slots.proofs.RequestLists.{is_in-push}
+use Rattle.request_slots.proofs.Looking.{phase_along}
+
+phase_noted : (k : ℕ) (seen : List Entry) (own : List Call) (s : Station) (held : Bool) (phase : Phase) → PhaseHolds k seen own s phase → PhaseHolds k seen own (noted s held) phase
+phase_noted k seen own s held Idle p = p
+phase_noted k seen own s held (Left calls start) p = record { left = p.left; calls_are = p.calls_are; start_is = p.start_is; begins = p.begins; own_is = p.own_is; request = p.request }
+
+own_calls : (k : ℕ) (line : List Entry) (own : List Call) (s : Station) (phase : Phase) → PhaseHolds k line own s phase → (calls_by k line ≡ own) ⊎ (calls_by k line ≡ own ++ left_calls phase)
+own_calls k line own s Idle h = inl h.own_is
+own_calls k line own s (Left calls start) h = h.own_is
+
+module _ (room : ℕ) (s : State Slot View) (r : Lawful room s) (id : ℕ) (c : Known) (there : get_elem? s.views id ≡ some (Caller c)) where
+  abbrev knows : Knows room r.n r.made r.line r.lock r.station id (Caller c)
+  knows = r.each_seat id (Caller c) there
+
+  abbrev here : Station
+  here = r.station c.number
+
+  inside : c.number < r.n
+  inside = knows.inside
+
+  -- the free lock is taken, with the desk
+  lock_keeps : (d : Desk) → r.lock ≡ free → DeskRests room r.n r.line d → Lawful room (handed s (c.number + 1) none id (Caller (locking c d.book.history)))
+  lock_keeps d is_free rests =
+      let st : Station = noted here true in
+      let p : Pass = fresh_pass d.book.history in
+      let lock : Lock = held_by c.number p in
+      let free_before = relocked room s r free is_free in
+      let rises = put_rises r.station c.number st (λ _. refl) in
+      lock_step room s r (c.number + 1) none (put r.station c.number st) lock id (Caller (locking c d.book.history))
+      (λ k above. let made = knows.number_made in subst IsNotMade (sym (put_else r.station c.number st k (λ e. omega arith))) (r.not_made k above))
+      record {
+        word_is = refl;
+        inside = inside;
+        home_is = refl;
+        pass = record {
+          line_is = rests.history_is;
+          before_is = λ _. rests.history_is;
+          grows = subst (λ l. Begins l r.line) (sym rests.history_is) (begins_self r.line);
+          all_tried = λ e. absurd (cc e);
+          of_callers = λ k _. refl;
+        };
+      }
+      (λ k lt. dite (ℕ_discrete k c.number)
+      (λ same. subst (λ (z : Station). CallerHolds room r.line (part_of lock k) (get_or s.words (k + 2) 0) (get_elem? s.homes (k + 1)) k z)
+      (ap (λ (z : ℕ). noted (r.station z) true) same ∙ (sym (put_here r.station c.number st) ∙ ap (put r.station c.number st) (sym same)))
+      (part_free room r.line (part_of free k) (part_of lock k) (get_or s.words (k + 2) 0) (get_elem? s.homes (k + 1)) k (r.station k) true refl refl (free_before.each_caller k lt)))
+      (λ other. subst (λ (z : Station). CallerHolds room r.line (part_of lock k) (get_or s.words (k + 2) 0) (get_elem? s.homes (k + 1)) k z)
+      (sym (put_else r.station c.number st k other))
+      (part_free room r.line (part_of free k) (part_of lock k) (get_or s.words (k + 2) 0) (get_elem? s.homes (k + 1)) k (r.station k) (r.station k).held refl refl (free_before.each_caller k lt))))
+      (subst (λ (z : Station × (Option Pass)). CallerKnows room r.n r.made r.line z.1 z.0 (λ m. (put r.station c.number st m).held) id (locking c d.book.history))
+      (λ i. (sym (put_here r.station c.number st) i, sym (pass_there c.number p) i)) record {
+        number_made = knows.number_made;
+        inside = knows.inside;
+        seat_is = knows.seat_is;
+        room_is = knows.room_is;
+        own_is = knows.own_is;
+        fronts = knows.fronts;
+        pass_is = refl;
+        phase = phase_noted c.number c.seen c.own here true c.phase knows.phase;
+        settled = record {
+          done = knows.settled.done;
+          tried = λ q e t. let same : p ≡ q = cc e in absurd (cc (ap (λ (z : Pass). is_in z.tried c.number) same ∙ t));
+        };
+        notes = record {
+          held_is = refl;
+          holder_held = λ _ _. refl;
+          others_held = λ m e. let t = knows.notes.others_held m e in (t.0, t.1, rises m t.2);
+        };
+      })
+      (others_know room r.n r.made r.line r.line r.lock lock r.station (put r.station c.number st) c.number id knows.seat_is (begins_self r.line)
+      (λ i other. pass_elsewhere c.number i p other ∙ ap (λ l. pass_of l i) (sym is_free)) (put_abides r.station c.number st) rises)
+      (holder_begins s.views (put r.station c.number st) id (Caller c) (locking c d.book.history) p there (ap (λ (z : Station). z.seat) (put_here r.station c.number st) ∙ knows.seat_is) refl)
+
+  -- another caller was found at the lock
+  meet_knows : (h : ℕ) → h ≢ c.number → h < r.n → (r.station h).held ≡ true → Knows room r.n r.made r.line r.lock r.station id (Caller (meeting c h))
+  meet_knows h other near had = record {
+    number_made = knows.number_made;
+    inside = knows.inside;
+    seat_is = knows.seat_is;
+    room_is = knows.room_is;
+    own_is = knows.own_is;
+    fronts = knows.fronts;
+    pass_is = knows.pass_is;
+    phase = knows.phase;
+    settled = knows.settled;
+    notes = record {
+      held_is = knows.notes.held_is;
+      holder_held = knows.notes.holder_held;
+      others_held = λ m e. ⊎_elim (knows.notes.others_held m) (λ (t : h ≡ m). subst (λ (z : ℕ). (z ≢ c.number) × (z < r.n) × ((r.station z).held ≡ true)) t (other, near, had)) (is_in-push c.met h m e);
+    };
+  }
+
+-- what a caller is told of the line, with the desk
+shows_line : (room slots : ℕ) (s : State Slot View) (r : Lawful room s) (id : ℕ) (c : Known) (d : Desk) → slots ≡ r.n + 1 → Knows room r.n r.made r.line r.lock r.station id (Caller c) → DeskRests room r.n r.line d → ShowsLine slots c d.book
+shows_line room slots s r id c d sized knows rests = let is_line : r.line ≡ d.book.history = sym rests.history_is in record {
+  room = rests.room_is ∙ sym knows.room_is;
+  begins = subst (Begins c.seen) is_line knows.fronts.seen_begins;
+  own = subst (OwnCallsIn c) is_line (own_calls c.number r.line c.own (r.station c.number) c.phase (phase_along room s r id c knows));
+  no_strangers = λ i far. subst (λ l. calls_by i l ≡ []) is_line (r.line_holds.no_strangers i (omega arith));
+}
+
+pub locks : (room slots id k : ℕ) (me : Sat) → me.0 ≡ Caller (known_of me.0) → (known_of me.0).number ≡ k → (known_of me.0).pass ≡ None
+    → Allows (Lawful room) slots id me 0 (λ x. either (eqb x 0) (k + 1) x) (Locks (step slots 0 0 (k + 1) none) me)
+locks room slots id k me is number no_pass s r deep at small =
+    go (subst (Knows room r.n r.made r.line r.lock r.station id) is (r.each_seat id me.0 at)) r.lock refl
+  where
+    go : (knows : Knows room r.n r.made r.line r.lock r.station id (Caller (known_of me.0))) (lock : Lock) → r.lock ≡ lock → let x : ℕ = get_or s.words 0 0 in
+        (w : View) × (a : Act Slot) × Valid s.homes me.1 a × Lawful room (stepped s 0 (either (eqb x 0) (k + 1) x) id me.1 w a) × Locks (step slots 0 0 (k + 1) none) me x (w, carried_after me.1 a)
+    go knows free e =
+        let c : Known = known_of me.0 in let x : ℕ = get_or s.words 0 0 in
+        let h = subst (LockHolds room r.n r.line x (get_elem? s.homes 0)) e r.lock_holds in
+        let d : Desk = h.desk in let rests = h.rests in
+        let sized : slots ≡ r.n + 1 = sym deep ∙ r.deep in
+        let request_spaces = rests.request_spaces in let outcome_spaces = rests.outcome_spaces in (
+          Caller (locking c d.book.history),
+          takes 0 (Kept d),
+          h.home_is,
+          subst (λ (z : Bool × ℕ). Lawful room (stepped s 0 (either z.0 (z.1 + 1) x) id me.1 (Caller (locking c d.book.history)) (takes 0 (Kept d)))) (λ i. (sym (eq-eqb x 0 h.word_is) i, number i))
+              (lock_keeps room s r id c (at ∙ ap (λ (v : View). some v) is) d e rests),
+          (
+            (λ _. (
+              d,
+              record { no_requests = rests.no_requests; no_outcomes = rests.no_outcomes; request_spaces = omega arith; outcome_spaces = omega arith },
+              shows_line room slots s r id c d sized knows rests,
+              refl,
+              refl,
+            )),
+            λ miss. absurd (miss h.word_is),
+          ),
+        )
+    go knows (held_by q p) e =
+        let c : Known = known_of me.0 in let x : ℕ = get_or s.words 0 0 in
+        let h = subst (LockHolds room r.n r.line x (get_elem? s.homes 0)) e r.lock_holds in
+        let other : q ≢ c.number = λ same. let t : Some p ≡ None = sym (pass_there q p) ∙ (ap (pass_of (held_by q p)) same ∙ (ap (λ l. pass_of l c.number) (sym e) ∙ (sym knows.pass_is ∙ no_pass))) in absurd (cc t) in
+        let miss : x ≢ 0 = λ e. let word = h.word_is in omega arith in (
+          Caller (meeting c q),
+          keeps,
+          tt,
+          subst (λ b. Lawful room (stepped s 0 (either b (k + 1) x) id me.1 (Caller (meeting c q)) keeps)) (sym (ne_eqb x 0 miss))
+              (view_step room s r 0 id (Caller (meeting c q)) (meet_knows room s r id c (at ∙ ap (λ (v : View). some v) is) q other h.inside (holder_has_held room s r q p e))
+              (holder_follows s.views r.station r.station r.lock id c (meeting c q) (at ∙ ap (λ (v : View). some v) is) refl (λ _. refl) knows.seat_is knows.pass_is r.holder_sits)),
+          ((λ hit. absurd (miss hit)), λ _. (meeting c q, (q, other, (let near = h.inside in let sized : slots ≡ r.n + 1 = sym deep ∙ r.deep in omega arith), refl), refl)),
+        )

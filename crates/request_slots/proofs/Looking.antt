@@ -1,0 +1,210 @@
+-- A caller that looks, or meets another, keeps the rule.
+-- `phase_of_line` carries a phase from what was seen to the line, `rests_of` shows that an idle caller rests. `looks` and `adopts` are
+-- what the table asks of the two loads, `shows` and `sees` of the split and the join between two callers.
+use Rattle.std.proofs.Common.{refl, ap, ◌≡◌, ◌⊎◌, ℕ, ◌+◌, ◌≤◌, Bool, true, false, List, [], ◌∷◌, ◌++◌, length, get_or, set, nat_lt, if◌then◌else◌, Option, sym, ◌∙◌, subst, ⊎_elim, inl, inr, arith}
+use mathlib.Core.Option.{none, some}
+use lib.ListN.{get_elem?}
+use Rattle.atomic_table.specs.Table.{State, step, keeps, Allows, Splits, Joins}
+use Rattle.atomic_table.proofs.Lists.{at_snoc, set_else, set_again}
+use Rattle.cvl_text.specs.declared.call.Call.{Call}
+use Rattle.call_history.specs.declared.entry.Entry.{Entry}
+use Rattle.call_history.specs.declared.request.Outcome.{Outcome}
+use Rattle.call_history.specs.History.{Begins}
+use Rattle.call_history.specs.Callers.{calls_by}
+use Rattle.call_history.specs.Fits.{Fate, StandsAt, CameBack, fate_of}
+use Rattle.call_history.proofs.Beginnings.{begins_self, begins_trans, begins_shorter}
+use Rattle.call_history.proofs.CallerLemmas.{calls_stay, calls_between, calls_split}
+use Rattle.request_slots.specs.declared.desk.Slot.{Slot}
+use Rattle.request_slots.specs.declared.known.Pass.{Pass}
+use Rattle.request_slots.specs.declared.known.Known.{Known}
+use Rattle.request_slots.specs.declared.known.Phase.{Phase}
+use Rattle.request_slots.specs.declared.known.Phase.TheVariants.{Idle, Left}
+use Rattle.request_slots.specs.declared.known.View.{View}
+use Rattle.request_slots.specs.declared.known.View.TheVariants.{Caller, Bare, Spent}
+use Rattle.request_slots.specs.Stages.{Stage, unmade, idle, posted, taken, done, is_left, Station, Home}
+use Rattle.request_slots.specs.Passes.{Part, part_of}
+use Rattle.request_slots.specs.Locks.{HolderSits}
+use Rattle.request_slots.specs.Requests.{FateHolds, ServedHolds, StageHolds, CallerHolds}
+use Rattle.request_slots.specs.Phases.{PhaseHolds}
+use Rattle.request_slots.specs.Lawful.{CallerKnows, Knows, Lawful}
+use Rattle.request_slots.specs.Views.{known_of, seen_in, looking, informed, adopting, longer, Rests}
+use Rattle.request_slots.specs.Events.{Sat, Looks, Adopts}
+use Rattle.request_slots.proofs.Holders.{holder_follows, holder_apart, holder_more, seats_apart}
+use Rattle.request_slots.proofs.Carrying.{seats_after, view_change, view_step}
+
+pub not_true : (b : Bool) → (b ≡ true → ⊥) → b ≡ false
+not_true true no_way = absurd (no_way refl)
+not_true false no_way = refl
+
+longer_is : (xs ys : List Entry) → ((longer xs ys ≡ xs) × (length ys ≤ length xs)) ⊎ ((longer xs ys ≡ ys) × (length xs ≤ length ys))
+longer_is xs ys = go (nat_lt (length xs) (length ys)) refl
+  where
+    go : (b : Bool) → nat_lt (length xs) (length ys) ≡ b → (((if b then ys else xs) ≡ xs) × (length ys ≤ length xs)) ⊎ (((if b then ys else xs) ≡ ys) × (length xs ≤ length ys))
+    go true e = inr (refl, grind (arith, e))
+    go false e = inl (refl, grind (arith, e))
+
+-- the longer of two beginnings of one history begins with both
+pub longer_begins : (xs ys line : List Entry) → Begins xs line → Begins ys line → Begins xs (longer xs ys) × Begins ys (longer xs ys) × Begins (longer xs ys) line
+longer_begins xs ys line p q = ⊎_elim
+    (λ (t : (longer xs ys ≡ xs) × (length ys ≤ length xs)). subst (λ l. Begins xs l × Begins ys l × Begins l line) (sym t.0) (begins_self xs, begins_shorter ys xs line q p t.1, p))
+    (λ (t : (longer xs ys ≡ ys) × (length xs ≤ length ys)). subst (λ l. Begins xs l × Begins ys l × Begins l line) (sym t.0) (begins_shorter xs ys line p q t.1, begins_self ys, q))
+    (longer_is xs ys)
+
+-- A caller's own calls along the line are its record, or also those that it left
+fate_calls : (room : ℕ) (line : List Entry) (k : ℕ) (own calls : List Call) (start : List Entry) (fate : Fate) → FateHolds room line k own calls start fate
+    → (calls_by k line ≡ own) ⊎ (calls_by k line ≡ own ++ calls)
+fate_calls room line k own calls start (StandsAt place replies) h = inr h.2
+fate_calls room line k own calls start (CameBack back) h = inl h.1
+
+served_calls : (room : ℕ) (line : List Entry) (outcome : Option Outcome) (k : ℕ) (own calls : List Call) (start : List Entry) (committed : Bool) → ServedHolds room line outcome k own calls start committed
+    → (calls_by k line ≡ own) ⊎ (calls_by k line ≡ own ++ calls)
+served_calls room line outcome k own calls start false h = inl h
+served_calls room line outcome k own calls start true h = fate_calls room line k own calls start (fate_of h.0) h.2
+
+left_calls_hold : (room : ℕ) (line : List Entry) (part : Part) (home : Home) (k : ℕ) (s : Station) (stage : Stage) → is_left stage ≡ true → StageHolds room line part home k s stage
+    → (calls_by k line ≡ s.own) ⊎ (calls_by k line ≡ s.own ++ s.calls)
+left_calls_hold room line part home k s unmade e h = absurd (cc e)
+left_calls_hold room line part home k s idle e h = absurd (cc e)
+left_calls_hold room line part home k s posted e h = inl h.own_is
+left_calls_hold room line part home k s taken e h = served_calls room line part.outcome k s.own s.calls s.start part.committed h.served
+left_calls_hold room line part home k s done e h = fate_calls room line k s.own s.calls s.start (fate_of h.outcome) h.fate
+
+-- what a phase says stays true of the whole line
+phase_of_line : (room : ℕ) (line : List Entry) (part : Part) (word : ℕ) (home : Home) (k : ℕ) (seen : List Entry) (own : List Call) (s : Station) (phase : Phase)
+    → CallerHolds room line part word home k s → own ≡ s.own → Begins seen line → PhaseHolds k seen own s phase → PhaseHolds k line own s phase
+phase_of_line room line part word home k seen own s Idle h same saw p =
+    let rests = subst (StageHolds room line part home k s) p.stage_is h.stage_holds in
+    record { stage_is = p.stage_is; own_is = rests.own_is ∙ sym same }
+phase_of_line room line part word home k seen own s (Left calls start) h same saw p = record {
+  left = p.left;
+  calls_are = p.calls_are;
+  start_is = p.start_is;
+  begins = begins_trans start seen line p.begins saw;
+  own_is = subst (λ (z : List Call × (List Call)). (calls_by k line ≡ z.0) ⊎ (calls_by k line ≡ z.0 ++ z.1)) (λ i. (sym same i, sym p.calls_are i))
+      (left_calls_hold room line part home k s s.stage p.left h.stage_holds);
+  request = p.request;
+}
+
+-- the same for a caller of the table
+pub phase_along : (room : ℕ) (s : State Slot View) (r : Lawful room s) (id : ℕ) (c : Known) → Knows room r.n r.made r.line r.lock r.station id (Caller c)
+    → PhaseHolds c.number r.line c.own (r.station c.number) c.phase
+phase_along room s r id c knows = phase_of_line room r.line (part_of r.lock c.number) (get_or s.words (c.number + 2) 0) (get_elem? s.homes (c.number + 1)) c.number c.seen c.own (r.station c.number) c.phase
+    (r.each_caller c.number knows.inside) knows.own_is knows.fronts.seen_begins knows.phase
+
+-- what a phase says stays true of what is between a caller's front and the line
+phase_between : (k : ℕ) (xs ys zs : List Entry) (own : List Call) (s : Station) (phase : Phase) → Begins xs ys → Begins ys zs → PhaseHolds k xs own s phase → PhaseHolds k zs own s phase → PhaseHolds k ys own s phase
+phase_between k xs ys zs own s Idle p q low high = record { stage_is = low.stage_is; own_is = calls_between k xs ys zs own p q low.own_is high.own_is }
+phase_between k xs ys zs own s (Left calls start) p q low high = record {
+  left = low.left;
+  calls_are = low.calls_are;
+  start_is = low.start_is;
+  begins = begins_trans start xs ys low.begins p;
+  own_is = go low.own_is high.own_is;
+  request = low.request;
+}
+  where
+    go : (calls_by k xs ≡ own) ⊎ (calls_by k xs ≡ own ++ calls) → (calls_by k zs ≡ own) ⊎ (calls_by k zs ≡ own ++ calls) → (calls_by k ys ≡ own) ⊎ (calls_by k ys ≡ own ++ calls)
+    go (inl a) (inl b) = inl (calls_between k xs ys zs own p q a b)
+    go (inl a) (inr b) = calls_split k xs ys zs own calls p q a b low.request
+    go (inr a) (inl b) = inl (calls_between k xs ys zs own p q (calls_stay k xs zs own calls (begins_trans xs ys zs p q) a b) b)
+    go (inr a) (inr b) = inr (calls_between k xs ys zs (own ++ calls) p q a b)
+
+-- an idle caller has its record in what it has seen, and is not settled
+pub rests_of : {room n made : ℕ} {line : List Entry} {pass : Option Pass} {mine : Station} {has_held : ℕ → Bool} {seat : ℕ} {c : Known} → CallerKnows room n made line pass mine has_held seat c → Rests c
+rests_of {mine} {c} knows at_rest =
+    let phase = subst (PhaseHolds c.number c.seen c.own mine) at_rest knows.phase in
+    (phase.own_is, not_true c.settled (λ e. cc (knows.settled.done e, phase.stage_is)))
+
+-- a caller that sees more of the line
+sees_more : (room : ℕ) (s : State Slot View) (r : Lawful room s) (id : ℕ) (c : Known) (seen : List Entry) → Knows room r.n r.made r.line r.lock r.station id (Caller c) → Begins seen r.line → Begins c.seen seen
+    → Knows room r.n r.made r.line r.lock r.station id (Caller (looking c seen))
+sees_more room s r id c seen knows saw longer = record {
+  number_made = knows.number_made;
+  inside = knows.inside;
+  seat_is = knows.seat_is;
+  room_is = knows.room_is;
+  own_is = knows.own_is;
+  fronts = record { seen_begins = saw; told_begins = knows.fronts.told_begins; start_begins = knows.fronts.start_begins };
+  pass_is = knows.pass_is;
+  phase = phase_between c.number c.seen seen r.line c.own (r.station c.number) c.phase longer saw knows.phase (phase_along room s r id c knows);
+  settled = knows.settled;
+  notes = knows.notes;
+}
+
+told_knows : (room : ℕ) (s : State Slot View) (r : Lawful room s) (id : ℕ) (c : Known) (seen : List Entry) → Knows room r.n r.made r.line r.lock r.station id (Caller c) → Begins seen r.line
+    → Knows room r.n r.made r.line r.lock r.station id (Caller (informed c seen))
+told_knows room s r id c seen knows saw = record {
+  number_made = knows.number_made;
+  inside = knows.inside;
+  seat_is = knows.seat_is;
+  room_is = knows.room_is;
+  own_is = knows.own_is;
+  fronts = record { seen_begins = knows.fronts.seen_begins; told_begins = saw; start_begins = knows.fronts.start_begins };
+  pass_is = knows.pass_is;
+  phase = knows.phase;
+  settled = knows.settled;
+  notes = knows.notes;
+}
+
+pub looks : (room slots id : ℕ) (me : Sat) → me.0 ≡ Caller (known_of me.0) → Allows (Lawful room) slots id me 1 (λ x. x) (Looks (step slots 1 0 0 none) me)
+looks room slots id me is s r deep at small =
+    let c : Known = known_of me.0 in
+    let there : get_elem? s.views id ≡ some (Caller c) = at ∙ ap (λ (v : View). some v) is in
+    let knows = r.each_seat id (Caller c) there in
+    let after = sees_more room s r id c r.line knows (begins_self r.line) knows.fronts.seen_begins in (
+      Caller (looking c r.line),
+      keeps,
+      tt,
+      view_step room s r 1 id (Caller (looking c r.line)) after
+          (holder_follows s.views r.station r.station r.lock id c (looking c r.line) there refl (λ _. refl) knows.seat_is knows.pass_is r.holder_sits),
+      (r.line, r.line_holds.length_is, knows.fronts.seen_begins, refl, rests_of after),
+    )
+
+pub shows : (room id : ℕ) (v : View) → v ≡ Caller (known_of v) → Splits (Lawful room) id v v (Bare (known_of v).seen)
+shows room id v is s r at =
+    let knows = subst (Knows room r.n r.made r.line r.lock r.station id) is (r.each_seat id v at) in
+    let bare : View = Bare (known_of v).seen in
+    let seats : (j : ℕ) (w : View) → get_elem? (set s.views id v ++ bare ∷ []) j ≡ some w → Knows room r.n r.made r.line r.lock r.station j w =
+    λ j w e. ⊎_elim (seats_after (Knows room r.n r.made r.line r.lock r.station) (Knows room r.n r.made r.line r.lock r.station) s.views id v (r.each_seat id v at) (λ i other x h. h) r.each_seat j w)
+    (λ (t : bare ≡ w). subst (Knows room r.n r.made r.line r.lock r.station j) t knows.fronts.seen_begins) (at_snoc (set s.views id v) bare w j e) in
+    record {
+      n = r.n;
+      made = r.made;
+      line = r.line;
+      lock = r.lock;
+      station = r.station;
+      wide = r.wide;
+      deep = r.deep;
+      not_made = r.not_made;
+      line_holds = r.line_holds;
+      lock_holds = r.lock_holds;
+      holder_sits = holder_more (set s.views id v) bare r.station r.lock (subst (λ vs. HolderSits vs r.station r.lock) (sym (set_again s.views id v at)) r.holder_sits);
+      sit_apart = seats_apart room r.n r.made r.line r.lock r.station (set s.views id v ++ bare ∷ []) seats;
+      each_caller = r.each_caller;
+      each_seat = seats;
+    }
+
+pub sees : (room id other : ℕ) (v w : View) → v ≡ Caller (known_of v) → w ≡ Bare (seen_in w) → Joins (Lawful room) id v other w (Caller (informed (known_of v) (seen_in w))) Spent
+sees room id other v w is bare s r at apart there =
+    let knows = subst (Knows room r.n r.made r.line r.lock r.station id) is (r.each_seat id v at) in
+    let both : View = Caller (informed (known_of v) (seen_in w)) in
+    let saw : Begins (seen_in w) r.line = subst (Knows room r.n r.made r.line r.lock r.station other) bare (r.each_seat other w (sym (set_else s.views id other both apart) ∙ there)) in
+    let s' : State Slot View = record { words = s.words; homes = s.homes; views = set s.views id both } in
+    let held = holder_follows s.views r.station r.station r.lock id (known_of v) (informed (known_of v) (seen_in w)) (at ∙ ap (λ (u : View). some u) is) refl (λ _. refl) knows.seat_is knows.pass_is r.holder_sits in
+    let mid = view_change room s r id both (told_knows room s r id (known_of v) (seen_in w) knows saw) held in
+    view_change room s' mid other Spent tt
+    (holder_apart s'.views mid.station mid.station mid.lock other w Spent there (λ c e. let t : Bare (seen_in w) ≡ Caller c = sym bare ∙ e in absurd (cc t)) (λ _ _ _. refl) mid.holder_sits)
+
+pub adopts : (room slots id : ℕ) (me : Sat) → me.0 ≡ Caller (known_of me.0) → Allows (Lawful room) slots id me 1 (λ x. x) (Adopts (step slots 1 0 0 none) me)
+adopts room slots id me is s r deep at small =
+    let c : Known = known_of me.0 in
+    let knows = subst (Knows room r.n r.made r.line r.lock r.station id) is (r.each_seat id me.0 at) in
+    let both = longer_begins c.seen c.told r.line knows.fronts.seen_begins knows.fronts.told_begins in
+    let after = sees_more room s r id c (longer c.seen c.told) knows both.2 both.0 in (
+      Caller (adopting c),
+      keeps,
+      tt,
+      view_step room s r 1 id (Caller (adopting c)) after
+          (holder_follows s.views r.station r.station r.lock id c (adopting c) (at ∙ ap (λ (v : View). some v) is) refl (λ _. refl) knows.seat_is knows.pass_is r.holder_sits),
+      (both.0, both.1, refl, rests_of after),
+    )

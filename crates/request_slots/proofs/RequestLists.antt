@@ -1,0 +1,117 @@
+-- Requests taken, as plain lists: without those of a caller, with one more, and with each caller's once.
+-- `request_by-without` and `request_by-without_else` say what `without` leaves, `without_middle` that it takes one request out of distinct
+-- ones; `orderly_tries`, `orderly_takes` and `strikes_middle` that a pass stays orderly.
+use Rattle.std.proofs.Common.{◌≡◌, ◌≢◌, ◌⊎◌, inl, inr, ℕ, Bool, true, false, cond, List, [], ◌∷◌, ◌++◌, ◌==◌, ◌||◌, Option, Some, None, refl, sym, ap, ◌∙◌, subst, arith, eq-eqb, ne_eqb}
+use mathlib.Core.Logic.{dite}
+use native.Mathlib.Decide.{ℕ_discrete}
+use Rattle.cvl_text.specs.declared.call.Call.{Call}
+use Rattle.call_history.specs.declared.request.Request.{Request}
+use Rattle.call_history.specs.Fits.{request, request_by}
+use Rattle.call_history.proofs.Serving.{request_by-push_else}
+use Rattle.request_slots.specs.declared.known.Pass.{Pass}
+use Rattle.request_slots.specs.Passes.{is_in, tries, takes_on, without, strikes}
+use Rattle.request_slots.specs.Seating.{IsDistinct, IsOrderly}
+
+pub request_by-without : (k : ℕ) (rs : List Request) → request_by k (without k rs) ≡ None
+request_by-without k [] = refl
+request_by-without k (r ∷ rs) = go (r.caller == k) (request_by-without k rs) refl
+  where
+    go : (b : Bool) → request_by k (without k rs) ≡ None → (r.caller == k) ≡ b → request_by k (cond b (without k rs) (r ∷ without k rs)) ≡ None
+    go true later _ = later
+    go false later e = ap (λ b. cond {A = Option (List Call)} b (Some (r.call ∷ [])) (request_by k (without k rs))) e ∙ later
+
+pub request_by-without_else : (k i : ℕ) (rs : List Request) → k ≢ i → request_by k (without i rs) ≡ request_by k rs
+request_by-without_else k i [] other = refl
+request_by-without_else k i (r ∷ rs) other = dite (ℕ_discrete r.caller i)
+    (λ same. ap (λ b. request_by k (cond b (without i rs) (r ∷ without i rs))) (eq-eqb r.caller i same) ∙ (request_by-without_else k i rs other
+    ∙ sym (ap (λ b. cond {A = Option (List Call)} b (Some (r.call ∷ [])) (request_by k rs)) (ne_eqb r.caller k (λ e. other (sym e ∙ same))))))
+    (λ apart. ap (λ b. request_by k (cond b (without i rs) (r ∷ without i rs))) (ne_eqb r.caller i apart)
+    ∙ ap (cond {A = Option (List Call)} (r.caller == k) (Some (r.call ∷ []))) (request_by-without_else k i rs other))
+
+without_none : (i : ℕ) (rs : List Request) → request_by i rs ≡ None → without i rs ≡ rs
+without_none i [] e = refl
+without_none i (r ∷ rs) e = go (r.caller == i) (without_none i rs) e
+  where
+    go : (b : Bool) → (request_by i rs ≡ None → without i rs ≡ rs) → cond {A = Option (List Call)} b (Some (r.call ∷ [])) (request_by i rs) ≡ None → cond b (without i rs) (r ∷ without i rs) ≡ r ∷ rs
+    go true later e = absurd (cc e)
+    go false later e = ap (λ (l : List Request). r ∷ l) (later e)
+
+-- a caller that is not among the requests is not the one in the middle
+pub request_by-middle : (k i : ℕ) (rs later : List Request) (call : Call) → request_by k (rs ++ request i call ∷ later) ≡ None → (k ≢ i) × (request_by k (rs ++ later) ≡ None)
+request_by-middle k i [] later call e = go (i == k) refl e
+  where
+    go : (b : Bool) → (i == k) ≡ b → cond {A = Option (List Call)} b (Some (call ∷ [])) (request_by k later) ≡ None → (k ≢ i) × (request_by k later ≡ None)
+    go true same e = absurd (cc e)
+    go false same e = ((λ is. let t : true ≡ false = sym (eq-eqb i k (sym is)) ∙ same in absurd (cc t)), e)
+request_by-middle k i (r ∷ rs) later call e = go (r.caller == k) (request_by-middle k i rs later call) e
+  where
+    go : (b : Bool) → (request_by k (rs ++ request i call ∷ later) ≡ None → (k ≢ i) × (request_by k (rs ++ later) ≡ None))
+        → cond {A = Option (List Call)} b (Some (r.call ∷ [])) (request_by k (rs ++ request i call ∷ later)) ≡ None → (k ≢ i) × (cond {A = Option (List Call)} b (Some (r.call ∷ [])) (request_by k (rs ++ later)) ≡ None)
+    go true more e = absurd (cc e)
+    go false more e = more e
+
+pub middle_asks : (earlier later : List Request) (i : ℕ) (call : Call) → (calls : List Call) × (request_by i (earlier ++ request i call ∷ later) ≡ Some calls)
+middle_asks [] later i call = (call ∷ [], ap (λ b. cond {A = Option (List Call)} b (Some (call ∷ [])) (request_by i later)) (eq-eqb i i refl))
+middle_asks (r ∷ rs) later i call = go (r.caller == i) (middle_asks rs later i call)
+  where
+    go : (b : Bool) → (calls : List Call) × (request_by i (rs ++ request i call ∷ later) ≡ Some calls) → (calls : List Call) × (cond {A = Option (List Call)} b (Some (r.call ∷ [])) (request_by i (rs ++ request i call ∷ later)) ≡ Some calls)
+    go true more = (r.call ∷ [], refl)
+    go false more = more
+
+-- without one of distinct requests the others are left
+pub without_middle : (rs later : List Request) (i : ℕ) (call : Call) → IsDistinct (rs ++ request i call ∷ later) → (without i (rs ++ request i call ∷ later) ≡ rs ++ later) × IsDistinct (rs ++ later)
+without_middle [] later i call d = (ap (λ b. cond b (without i later) (request i call ∷ without i later)) (eq-eqb i i refl) ∙ without_none i later d.0, d.1)
+without_middle (r ∷ rs) later i call d =
+    let front = request_by-middle r.caller i rs later call d.0 in let more = without_middle rs later i call d.1 in
+    (ap (λ b. cond b (without i (rs ++ request i call ∷ later)) (r ∷ without i (rs ++ request i call ∷ later))) (ne_eqb r.caller i front.0) ∙ ap (λ (l : List Request). r ∷ l) more.0, (front.1, more.1))
+
+pub distinct-push : (rs : List Request) (i : ℕ) (call : Call) → IsDistinct rs → request_by i rs ≡ None → IsDistinct (rs ++ request i call ∷ [])
+distinct-push [] i call d fresh = (refl, tt)
+distinct-push (r ∷ rs) i call d fresh = dite (ℕ_discrete r.caller i)
+    (λ same. let t : Some (r.call ∷ []) ≡ None = sym (ap (λ b. cond {A = Option (List Call)} b (Some (r.call ∷ [])) (request_by i rs)) (eq-eqb r.caller i same)) ∙ fresh in absurd (cc t))
+    (λ other. (
+      request_by-push_else r.caller i rs call other ∙ d.0,
+      distinct-push rs i call d.1 (sym (ap (λ b. cond {A = Option (List Call)} b (Some (r.call ∷ [])) (request_by i rs)) (ne_eqb r.caller i other)) ∙ fresh),
+    ))
+
+-- what is in a list with one more number, and what is not
+pub is_in-push : (xs : List ℕ) (i k : ℕ) → is_in (xs ++ i ∷ []) k ≡ true → (is_in xs k ≡ true) ⊎ (i ≡ k)
+is_in-push [] i k e = inr (go (i == k) refl e)
+  where
+    go : (b : Bool) → (i == k) ≡ b → (b || false) ≡ true → i ≡ k
+    go true same _ = grind (arith, same)
+    go false _ e = absurd (cc e)
+is_in-push (x ∷ xs) i k e = go (x == k) (is_in-push xs i k) e
+  where
+    go : (b : Bool) → (is_in (xs ++ i ∷ []) k ≡ true → (is_in xs k ≡ true) ⊎ (i ≡ k)) → (b || is_in (xs ++ i ∷ []) k) ≡ true → ((b || is_in xs k) ≡ true) ⊎ (i ≡ k)
+    go true later _ = inl refl
+    go false later e = later e
+
+untried-push : (xs : List ℕ) (i k : ℕ) → is_in (xs ++ i ∷ []) k ≡ false → (is_in xs k ≡ false) × (k ≢ i)
+untried-push [] i k e = (refl, λ same. let t : true ≡ false = sym (ap (λ b. b || false) (eq-eqb i k (sym same))) ∙ e in absurd (cc t))
+untried-push (x ∷ xs) i k e = go (x == k) (untried-push xs i k) e
+  where
+    go : (b : Bool) → (is_in (xs ++ i ∷ []) k ≡ false → (is_in xs k ≡ false) × (k ≢ i)) → (b || is_in (xs ++ i ∷ []) k) ≡ false → ((b || is_in xs k) ≡ false) × (k ≢ i)
+    go true later e = absurd (cc e)
+    go false later e = later e
+
+pub orderly_tries : (p : Pass) (i : ℕ) → IsOrderly p → IsOrderly (tries p i)
+orderly_tries p i o = record { untaken = λ k e. o.untaken k (untried-push p.tried i k e).0; distinct = o.distinct }
+
+pub orderly_takes : (p : Pass) (i : ℕ) (call : Call) → is_in p.tried i ≡ false → IsOrderly p → IsOrderly (takes_on p i call)
+orderly_takes p i call untried o = record {
+  untaken = λ k e. let t = untried-push p.tried i k e in request_by-push_else k i p.taken call t.1 ∙ o.untaken k t.0;
+  distinct = distinct-push p.taken i call o.distinct (o.untaken i untried);
+}
+
+pub strikes_middle : (p : Pass) (i : ℕ) (earlier later : List Request) (call : Call) → IsOrderly p → p.taken ≡ earlier ++ request i call ∷ later → (without i p.taken ≡ earlier ++ later) × IsOrderly (strikes p i)
+strikes_middle p i earlier later call o there =
+    let left = without_middle earlier later i call (subst IsDistinct there o.distinct) in
+    let same : without i p.taken ≡ earlier ++ later = ap (without i) there ∙ left.0 in (
+      same,
+      record {
+        untaken = λ k e. dite (ℕ_discrete k i) (λ (is : k ≡ i). subst (λ (z : ℕ). request_by z (without i p.taken) ≡ None) (sym is) (request_by-without i p.taken))
+            (λ other. request_by-without_else k i p.taken other ∙ o.untaken k e);
+        distinct = subst IsDistinct (sym same) left.1;
+      },
+    )

@@ -1,0 +1,12 @@
+use Rattle.std.proofs.Common.{rules, ◌≡◌, ◌+◌, replicate, ◌∙◌, sym}
+use Rattle.request_slots.proofs.Making.{opens}
+use Rattle.request_slots.proofs.Sitting.{all_new_at}
+use Rattle.request_slots.proofs.slots.Slots.new.Goals as goal
+
+pub new-requires : goal.new-requires
+new-requires c =
+    let words : c.as_slice.result.now ≡ replicate (c.args.callers + 2) 0 = c.as_slice.ensures.value ∙ c.in_ok-words.ensures.items_if_clones_equal (λ y e. search rules) in
+    opens _ c.args.callers _ _ c.args.desk words c.in_ok-homes.ensures (sym c.room-room.ensures.room) c.requires.empty c.requires.spare
+
+pub returns-clause-each : goal.returns-clause-each
+returns-clause-each c = all_new_at _ c.room-room.result c.loop-k.k c.loop-k.seats.items c.loop-k.invariant.2

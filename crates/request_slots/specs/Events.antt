@@ -1,0 +1,88 @@
+-- What each step tells the seat that makes it: of the step, the seat before, the number found at the word, and the seat after.
+-- The seat is its view and the slots in its hand. The changes of the view are those of `Views`.
+use Rattle.std.specs.Prelude.{◌≡◌, ◌≢◌, ℕ, ◌+◌, false, List, [], ◌∷◌, length}
+use Rattle.atomic_table.specs.Table.{Me, Step, rest}
+use Rattle.cvl_text.specs.declared.call.Call.{Call}
+use Rattle.call_history.specs.declared.entry.Entry.{Entry}
+use Rattle.call_history.specs.declared.request.Outcome.{Outcome}
+use Rattle.call_history.specs.History.{Begins}
+use Rattle.call_history.specs.Fits.{fate_of}
+use Rattle.request_slots.specs.declared.desk.Desk.{Desk}
+use Rattle.request_slots.specs.declared.desk.Slot.{Slot}
+use Rattle.request_slots.specs.declared.desk.Slot.TheVariants.{Nothing, Asked, Told, Kept}
+use Rattle.request_slots.specs.declared.known.Known.{Known}
+use Rattle.request_slots.specs.declared.known.View.{View}
+use Rattle.request_slots.specs.declared.known.View.TheVariants.{Caller}
+use Rattle.request_slots.specs.Passes.{takes_on, tries, strikes}
+use Rattle.request_slots.specs.Views.{known_of, pass_in, left_calls, left_start, leaving, locking, passing, committing, unlocking, looking, adopting, Rests, Collected, Meets, ShowsLine, IsSpare}
+
+-- a seat: its view, and the slots in its hand
+abbrev pub Sat : Type 0
+Sat = Me Slot View
+
+abbrev pub calls_in : Slot → List Call
+calls_in (Asked call) = call ∷ []
+calls_in Nothing = []
+calls_in (Told o) = []
+calls_in (Kept d) = []
+
+-- the calls in the slot that was taken last
+abbrev pub calls_in_hand : List (ℕ × Slot) → List Call
+calls_in_hand [] = []
+calls_in_hand (x ∷ hand) = calls_in x.1
+
+-- a caller posts the calls that lie in its hand
+abbrev pub Posts : Step Slot → Sat → ℕ → Sat → Type 0
+Posts st m found m' = (found ≡ 1) × (m'.0 ≡ Caller (leaving (known_of m.0) (calls_in_hand m.1))) × (m'.1 ≡ rest m.1)
+
+-- a caller takes its outcome, or finds none yet
+abbrev pub Collects : Step Slot → Sat → ℕ → Sat → Type 0
+Collects st m found m' =
+    (found ≡ 4 → (o : Outcome) × (c' : Known) × (m'.0 ≡ Caller c') × (m'.1 ≡ ((known_of m.0).number + 1, Told o) ∷ m.1)
+    × Collected (known_of m.0) (left_calls (known_of m.0).phase) (left_start (known_of m.0).phase) (fate_of o) c' × Rests c')
+    × (found ≢ 4 → (m' ≡ m) × ((known_of m.0).settled ≡ false))
+
+-- the desk is taken, or another caller is found to have it
+abbrev pub Locks : Step Slot → Sat → ℕ → Sat → Type 0
+Locks st m found m' =
+    (found ≡ 0 → (d : Desk) × IsSpare st.slots d × ShowsLine st.slots (known_of m.0) d.book
+    × (m'.0 ≡ Caller (locking (known_of m.0) d.book.history)) × (m'.1 ≡ (0, Kept d) ∷ m.1))
+    × (found ≢ 0 → (c' : Known) × Meets st.slots (known_of m.0) c' × (m' ≡ (Caller c', m.1)))
+
+-- the request of caller st.word - 2 is taken, or its word only counts as tried
+abbrev pub Takes : Step Slot → Sat → ℕ → Sat → Type 0
+Takes st m found m' = (i : ℕ) → st.word ≡ i + 2
+    → (found ≡ 2 → (call : Call) × (m'.0 ≡ Caller (passing (known_of m.0) (takes_on (pass_in (known_of m.0)) i call)))
+    × (m'.1 ≡ (i + 1, Asked call) ∷ m.1))
+    × (found ≢ 2 → m' ≡ (Caller (passing (known_of m.0) (tries (pass_in (known_of m.0)) i)), m.1))
+
+-- the line becomes this one, with these outcomes
+abbrev pub Commits : List Entry → List Outcome → Step Slot → Sat → ℕ → Sat → Type 0
+Commits line outcomes st m found m' = m' ≡ (Caller (committing (known_of m.0) (pass_in (known_of m.0)) line outcomes), m.1)
+
+-- the outcome in the hand goes home
+abbrev pub Tells : Step Slot → Sat → ℕ → Sat → Type 0
+Tells st m found m' = (i : ℕ) → st.word ≡ i + 2
+    → m' ≡ (Caller (passing (known_of m.0) (strikes (pass_in (known_of m.0)) i)), rest m.1)
+
+-- the desk in the hand goes home
+abbrev pub Unlocks : Step Slot → Sat → ℕ → Sat → Type 0
+Unlocks st m found m' =
+    (m' ≡ (Caller (unlocking (known_of m.0) (pass_in (known_of m.0))), rest m.1))
+    × Rests (unlocking (known_of m.0) (pass_in (known_of m.0)))
+
+-- the line so far is seen, and its length found
+abbrev pub Looks : Step Slot → Sat → ℕ → Sat → Type 0
+Looks st m found m' =
+    (line : List Entry) × (found ≡ length line) × Begins (known_of m.0).seen line
+    × (m' ≡ (Caller (looking (known_of m.0) line), m.1)) × Rests (looking (known_of m.0) line)
+
+-- the longer of what was seen and what was told begins with both
+abbrev pub Adopts : Step Slot → Sat → ℕ → Sat → Type 0
+Adopts st m found m' =
+    Begins (known_of m.0).seen (adopting (known_of m.0)).seen × Begins (known_of m.0).told (adopting (known_of m.0)).seen
+    × (m' ≡ (Caller (adopting (known_of m.0)), m.1)) × Rests (adopting (known_of m.0))
+
+-- a new caller is at its place, with its slot
+abbrev pub Arrives : Step Slot → Sat → ℕ → Sat → Type 0
+Arrives st m found m' = m' ≡ (Caller (known_of m.0), ((known_of m.0).number + 1, Nothing) ∷ [])

@@ -1,0 +1,86 @@
+-- The rule of the table, which holds between any two steps of any threads.
+-- `Lawful` lists its clauses; what a seat knows by them is `CallerKnows`. The words are those of `Stages` and `Passes`, and each
+-- clause is defined in the file that is named beside it.
+use Rattle.std.specs.Prelude.{◌≡◌, ℕ, ◌+◌, ◌<◌, ◌≤◌, Bool, false, List, length, slice_index, Option}
+use mathlib.Core.Option.{some}
+use lib.ListN.{get_elem?}
+use Rattle.atomic_table.specs.Table.{State}
+use Rattle.call_history.specs.declared.entry.Entry.{Entry}
+use Rattle.call_history.specs.History.{Begins}
+use Rattle.request_slots.specs.declared.desk.Slot.{Slot}
+use Rattle.request_slots.specs.declared.known.Pass.{Pass}
+use Rattle.request_slots.specs.declared.known.Known.{Known}
+use Rattle.request_slots.specs.declared.known.View.{View}
+use Rattle.request_slots.specs.declared.known.View.TheVariants.{Maker, Newcomer, Caller, Bare, Spent}
+use Rattle.request_slots.specs.Stages.{unmade, Station}
+use Rattle.request_slots.specs.Passes.{Lock, pass_of, part_of}
+use Rattle.request_slots.specs.Fronts.{FrontsBegin, LineHolds}
+use Rattle.request_slots.specs.Locks.{LockHolds, HolderSits, SitApart}
+use Rattle.request_slots.specs.Requests.{CallerHolds}
+use Rattle.request_slots.specs.Phases.{PhaseHolds, SettledHolds}
+use Rattle.request_slots.specs.Notes.{NotesHold}
+use Rattle.request_slots.specs.Views.{left_start}
+
+-- what holds of the seat of one caller, which stands at the station `mine` and has the view number `seat`
+pub record CallerKnows (room n made : ℕ) (line : List Entry) (pass : Option Pass) (mine : Station) (has_held : ℕ → Bool) (seat : ℕ) (c : Known) : Type 0 where
+  -- the rule and the seat speak of one caller and one history
+  pub number_made : c.number < made
+  pub inside : c.number < n
+  pub seat_is : mine.seat ≡ seat
+  pub room_is : c.room ≡ room
+  pub own_is : c.own ≡ mine.own
+  -- 1. What it has seen begins the line (Fronts).
+  pub fronts : FrontsBegin line c.seen c.told (left_start c.phase)
+  -- 3. Its pass is the lock's for its number (Passes).
+  pub pass_is : c.pass ≡ pass
+  -- 5. Its phase is what its word says (Phases).
+  pub phase : PhaseHolds c.number c.seen c.own mine c.phase
+  -- 6. If it is settled, its outcome waits for it (Phases).
+  pub settled : SettledHolds c.number c.settled c.pass mine.stage
+  -- 7. Its notes are true (Notes).
+  pub notes : NotesHold n c.number c.held mine.held c.met c.pass has_held
+
+-- of the seat of a caller whose slot is still at home
+pub record NewcomerKnows (room made : ℕ) (mine : Station) (seat room' k : ℕ) : Type 0 where
+  pub number_made : k < made
+  pub seat_is : mine.seat ≡ seat
+  pub room_is : room' ≡ room
+  pub stage_is : mine.stage ≡ unmade
+  pub not_held : mine.held ≡ false
+
+-- of any view, also one that a seat has left behind
+abbrev pub Knows : ℕ → ℕ → ℕ → List Entry → Lock → (ℕ → Station) → ℕ → View → Type 0
+Knows room n made line lock station seat (Maker room' m) = (room' ≡ room) × (m ≡ made) × (seat ≡ 0)
+Knows room n made line lock station seat (Newcomer room' k) = NewcomerKnows room made (station k) seat room' k
+Knows room n made line lock station seat (Caller c) =
+    CallerKnows room n made line (pass_of lock c.number) (station c.number) (λ m. (station m).held) seat c
+Knows room n made line lock station seat (Bare seen) = Begins seen line
+Knows room n made line lock station seat Spent = Unit {0}
+
+-- a caller that has no seat yet
+pub record IsNotMade (s : Station) : Type 0 where
+  pub stage_is : s.stage ≡ unmade
+  pub not_held : s.held ≡ false
+
+pub record Lawful (room : ℕ) (s : State Slot View) : Type 0 where
+  -- How many callers the table has, and how many of them have a seat. The line is the one history, committed so far. The lock
+  -- says who has the desk, and a station where each caller stands.
+  pub n : ℕ
+  pub made : ℕ
+  pub line : List Entry
+  pub lock : Lock
+  pub station : ℕ → Station
+  pub wide : length s.words ≡ n + 2
+  pub deep : length s.homes ≡ n + 1
+  pub not_made : (k : ℕ) → made ≤ k → IsNotMade (station k)
+  -- 2. The length word is the length of the line, whose entries are of callers of the table (Fronts).
+  pub line_holds : LineHolds n (slice_index s.words 1) line
+  -- 3. The lock word names exactly the seat that has the desk, and no caller has two seats (Locks).
+  pub lock_holds : LockHolds room n line (slice_index s.words 0) (get_elem? s.homes 0) lock
+  pub holder_sits : HolderSits s.views station lock
+  pub sit_apart : SitApart s.views
+  -- 4. In each caller's slot lies what its word says (Requests).
+  pub each_caller : (k : ℕ) → k < n
+      → CallerHolds room line (part_of lock k) (slice_index s.words (k + 2)) (get_elem? s.homes (k + 1)) k (station k)
+  -- 1, 3, 5, 6, 7. Each seat knows only what is so.
+  pub each_seat : (j : ℕ) (v : View) → get_elem? s.views j ≡ some v → Knows room n made line lock station j v

@@ -1,0 +1,12 @@
+pub mod Stages
+pub mod Passes
+pub mod Fronts
+pub mod Locks
+pub mod Requests
+pub mod Phases
+pub mod Notes
+pub mod Lawful
+pub mod Views
+pub mod Events
+pub mod Seating
+pub mod WholePass

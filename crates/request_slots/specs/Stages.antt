@@ -1,0 +1,59 @@
+-- Where each caller stands, and where each slot is: the words that the rule is written in.
+-- The number of a stage is what the caller's word holds. A `Station` is what the rule keeps of a caller beside its seat.
+use Rattle.std.specs.Prelude.{ℕ, Bool, true, false, List}
+use mathlib.Core.Option.{some, none}
+use mathlib.Core.Option as maybe
+use Rattle.cvl_text.specs.declared.call.Call.{Call}
+use Rattle.call_history.specs.declared.entry.Entry.{Entry}
+use Rattle.request_slots.specs.declared.desk.Slot.{Slot}
+
+-- where a caller's request stands
+pub data Stage : Type 0 where
+  -- the caller has no seat yet, or has not taken its slot
+  unmade : Stage
+  -- nothing was asked
+  idle : Stage
+  -- calls lie in its slot
+  posted : Stage
+  -- a pass took them
+  taken : Stage
+  -- an outcome lies in its slot
+  done : Stage
+
+abbrev pub code : Stage → ℕ
+code unmade = 0
+code idle = 1
+code posted = 2
+code taken = 3
+code done = 4
+
+-- whether calls were left, and no outcome of them was taken
+abbrev pub is_left : Stage → Bool
+is_left unmade = false
+is_left idle = false
+is_left posted = true
+is_left taken = true
+is_left done = true
+
+pub record Station : Type 0 where
+  pub stage : Stage
+  -- which of the views is the caller's
+  pub seat : ℕ
+  -- its answered calls
+  pub own : List Call
+  -- the calls that it left last
+  pub calls : List Call
+  -- what it had seen when it left them
+  pub start : List Entry
+  -- whether it has ever had the desk
+  pub held : Bool
+
+-- a slot of the table: at home with a value, or out in the hand of a seat
+abbrev pub Home : Type 0
+Home = maybe.Option (maybe.Option Slot)
+
+abbrev pub at_home : Slot → Home
+at_home x = some (some x)
+
+abbrev pub is_out : Home
+is_out = some none

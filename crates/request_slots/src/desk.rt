@@ -1,0 +1,26 @@
+//! What lies in the slots.
+
+use call_history::{Book, Outcome, Request};
+use cvl_text::Call;
+
+/// The book, with the vectors that a pass works with.
+#[derive(Drop)]
+pub struct Desk {
+    pub book: Book,
+    /// The requests taken in a pass.
+    pub requests: Vec<Request>,
+    /// What became of them, in the same order.
+    pub outcomes: Vec<Outcome>,
+}
+
+/// What a slot holds.
+#[derive(Drop)]
+pub enum Slot {
+    Nothing,
+    /// What a caller asks.
+    Asked(Call),
+    /// What became of it.
+    Told(Outcome),
+    /// The desk, while nobody has it.
+    Kept(Desk),
+}

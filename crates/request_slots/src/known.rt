@@ -1,0 +1,67 @@
+//! What seats know. No value of these types is made: they are what contracts and the rule say of a seat. A clause reads an
+//! array as a list, of any length.
+
+use call_history::{Entry, Outcome, Request};
+use cvl_text::Call;
+
+/// What the caller that has the desk knows of its pass.
+pub struct Pass {
+    /// The history committed.
+    pub line: [Entry; 0],
+    /// The history as it was before the commit of this pass.
+    pub before: [Entry; 0],
+    /// The callers whose words were tried.
+    pub tried: [u64; 0],
+    /// The requests taken and not yet answered.
+    pub taken: [Request; 0],
+    /// The requests of the commit.
+    pub asked: [Request; 0],
+    /// Their outcomes, in the same order.
+    pub outcomes: [Outcome; 0],
+    pub committed: bool,
+}
+
+/// Whether a caller has left calls.
+pub enum Phase {
+    Idle,
+    /// These calls, left when it had seen this history.
+    Left([Call; 0], [Entry; 0]),
+}
+
+/// What a caller knows.
+pub struct Known {
+    /// The greatest number of items in the memory that the history leads to.
+    pub room: u64,
+    /// The number of the caller, from 0.
+    pub number: u64,
+    /// What it has seen of the history.
+    pub seen: [Entry; 0],
+    /// What another caller had seen when they met last.
+    pub told: [Entry; 0],
+    /// Its answered calls, in order.
+    pub own: [Call; 0],
+    pub phase: Phase,
+    /// The call that it left was answered or refused, and waits for it.
+    pub settled: bool,
+    /// It has ever had the desk.
+    pub held: bool,
+    /// The callers that it found at the lock.
+    pub met: [u64; 0],
+    /// How many requests each of its commits had.
+    pub passes: [u64; 0],
+    /// What it knows as the caller that has the desk.
+    pub pass: Option<Pass>,
+}
+
+/// What a seat knows.
+pub enum View {
+    /// It makes the callers from this number on, of a history of this room.
+    Maker(u64, u64),
+    /// A caller with this room and number, whose slot is still at home.
+    Newcomer(u64, u64),
+    Caller(Known),
+    /// What a caller had seen, split off for another.
+    Bare([Entry; 0]),
+    /// What is left of a view that was joined to another.
+    Spent,
+}

@@ -1,0 +1,109 @@
+ghost use Rattle.std.specs.Prelude.{◌≡◌, ◌≢◌, ℕ, ◌+◌, ◌<◌, ◌≤◌, [], ◌∷◌, All, IfSome, IfNone, IfOk, None, replicate};
+ghost use Rattle.atomic_table.specs.Seated.{TableId};
+ghost use Rattle.request_slots.specs.declared.desk.Slot.TheVariants.{Nothing, Kept};
+ghost use Rattle.request_slots.specs.declared.known.View.TheVariants.{Maker};
+ghost use Rattle.request_slots.specs.Lawful.{Lawful};
+ghost use Rattle.request_slots.specs.Views.{ShowsLine, IsSpare};
+ghost use Rattle.request_slots.specs.Seating.{seated_at, seats_of, IsNewAt};
+
+use crate::desk::{Desk, Slot};
+use crate::known::View;
+use crate::plays::{Arrive, Make};
+use crate::seat::Seat;
+use atomic_table::{Table, TableRule};
+use std::alloc::Global;
+use std::marker::Model;
+use vector_memory::OutOfMemory;
+
+/// The rule of the table, of which the key is the room.
+pub(crate) struct OneHistory;
+
+impl TableRule<Slot, View, u64> for OneHistory {
+    ghost holds = { Lawful };
+
+    ghost first = { λ room. Maker room 0 };
+}
+
+/// The words and slots of one table, shared by its seats. To a contract it is the table's name.
+#[derive(Drop)]
+pub struct Slots {
+    pub(crate) table: Table<Slot, View, u64, OneHistory, Global>,
+}
+
+impl Model for Slots {
+    ghost Value = { TableId };
+
+    ghost view = { λ s. s.table.shared.table_id };
+}
+
+impl Slots {
+    /// A table for so many callers, and their seats, numbered from 0 in order. All are idle and have seen nothing.
+    pub fn new(alloc: Global, callers: usize, desk: Desk) -> Result<(Slots, Vec<Seat>), OutOfMemory>
+        requires count { (0 < callers) × (callers ≤ 64) }
+        requires empty { desk.book.history ≡ [] }
+        requires spare { IsSpare (callers + 1) desk }
+        ensures size { IfOk result (λ t. t.0.slots ≡ callers + 1) }
+        ensures seats { IfOk result (λ t. t.1.items ≡ seats_of t.0 desk.book.room callers) }
+        ensures each { IfOk result (λ t. All (IsNewAt t.0) t.1.items) }
+    {
+        let room = desk.book.room();
+        let mut seats = Vec::with_capacity(alloc, callers)?;
+        let words = Vec::from_elem(alloc, 0u64, callers + 2)?;
+        let homes = homes_of(alloc, callers, desk)?;
+        let Ok((table, mut maker)) = Table::new(alloc, words.as_slice(), homes, &room) else {
+            return Err(OutOfMemory);
+        };
+        let slots = Slots { table };
+        for k in 0..callers {
+            seats.push(slots.make_caller(&mut maker, room, k))?;
+        }
+        Ok((slots, seats))
+    }
+
+    /// The desk, unless the lock names another caller, which cannot be with one caller.
+    pub fn close(self, mut seat: Seat) -> Option<Desk>
+        requires place { seat.table_id ≡ self }
+        requires no_desk { seat.known.pass ≡ None }
+        ensures line { IfSome result (λ d. ShowsLine self.slots seat.known d.book) }
+        ensures found { IfNone result ((h : ℕ) × (h ≢ seat.known.number) × (h + 1 < self.slots)) }
+        ensures inside { seat.known.number + 1 < self.slots }
+    {
+        self.step_lock(&mut seat)
+    }
+
+    fn make_caller(
+        &self,
+        maker: &mut atomic_table::Seat<Slot, View>,
+        room: u64,
+        number: usize,
+    ) -> Seat
+        requires place { maker.old.table_id ≡ self.now }
+        requires maker { maker.old.me ≡ (Maker room number, []) }
+        requires size { (number + 1 < self.now.slots) × (self.now.slots ≤ 65) × (self.now.words ≡ self.now.slots + 1) }
+        ensures place { maker.new.table_id ≡ self.now }
+        ensures maker { maker.new.me ≡ (Maker room (number + 1), []) }
+        ensures seat { result ≡ seated_at self.now room number }
+    {
+        let shared = &self.table.shared;
+        let mut seat = shared.split_seat::<Make>(maker);
+        shared.store::<Arrive>(&mut seat, number + 2, 1);
+        Seat {
+            seat,
+            number,
+            idle: true,
+        }
+    }
+}
+
+// The desk, and an empty slot for each caller.
+fn homes_of(alloc: Global, callers: usize, desk: Desk) -> Result<Vec<Slot>, OutOfMemory>
+    requires { callers ≤ 64 }
+    ensures { IfOk result (λ v. v.items ≡ Kept desk ∷ replicate callers Nothing) }
+{
+    let mut homes = Vec::with_capacity(alloc, callers + 1)?;
+    homes.push(Slot::Kept(desk))?;
+    for _ in 0..callers {
+        homes.push(Slot::Nothing)?;
+    }
+    Ok(homes)
+}

@@ -1,0 +1,37 @@
+ghost use Rattle.std.specs.Prelude.{◌≡◌, length};
+ghost use Rattle.call_history.specs.History.{Begins};
+ghost use Rattle.request_slots.specs.Views.{looking, informed, adopting, Rests};
+
+use crate::plays::{Adopt, Look, Show};
+use crate::seat::Seat;
+use crate::slots::Slots;
+
+impl Slots {
+    /// The length of the history committed, all of which the caller has then seen.
+    pub fn step_look(&self, seat: &mut Seat) -> u64
+        requires place { seat.old.table_id ≡ self.now }
+        ensures place { seat.new.table_id ≡ self.now }
+        ensures known { seat.new.known ≡ looking seat.old.known seat.new.known.seen }
+        ensures later { Begins seat.old.known.seen seat.new.known.seen }
+        ensures length { result ≡ length seat.new.known.seen }
+        ensures rests { Rests seat.new.known }
+    {
+        self.table.shared.load::<Look>(&mut seat.seat, 1)
+    }
+
+    /// The caller then sees the longer of what it and the other had seen, which begins with both. The other is as before.
+    pub fn step_meet(&self, seat: &mut Seat, other: &mut Seat)
+        requires place { (seat.old.table_id ≡ self.now) × (other.old.table_id ≡ self.now) }
+        ensures place { seat.new.table_id ≡ self.now }
+        ensures known { seat.new.known ≡ adopting (informed seat.old.known other.old.known.seen) }
+        ensures own { Begins seat.old.known.seen seat.new.known.seen }
+        ensures told { Begins other.old.known.seen seat.new.known.seen }
+        ensures rests { Rests seat.new.known }
+        ensures other { other.new ≡ other.old }
+    {
+        let shared = &self.table.shared;
+        let bare = shared.split_seat::<Show>(&mut other.seat);
+        shared.join_seat::<Show>(&mut seat.seat, bare);
+        shared.load::<Adopt>(&mut seat.seat, 1);
+    }
+}
