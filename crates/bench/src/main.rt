@@ -1,11 +1,14 @@
 //! The benchmark program. `bench kernels` times the kernels, and prints a line for each row:
-//! `kernels TAB row TAB cvl TAB nanoseconds an item`, where a row is a kernel and how many items it runs over. Without
-//! arguments it prints its usage; so it does for other arguments, with status 2.
+//! `kernels TAB row TAB cvl TAB nanoseconds an item`, where a row is a kernel and how many items it runs over.
+//! `bench shared` times threads that share a machine, as `shared.rt` says. Without arguments it prints its usage; so it
+//! does for other arguments, with status 2.
 #![tactic(auto)]
 
 mod case;
 mod inputs;
+mod load;
 mod runs;
+mod shared;
 mod timing;
 
 use case::{CASES, Case};
@@ -16,7 +19,7 @@ use std::rt::Clock;
 use std::thread::Threads;
 use std::{env, io};
 
-const USAGE: &str = "usage: bench kernels";
+const USAGE: &str = "usage: bench kernels|shared";
 
 /// How many items the kernels run over.
 const SIZES: [u32; 4] = [1_000, 32_000, 1_000_000, 16_000_000];
@@ -35,10 +38,14 @@ fn kernels<R: Alloc<A = Global> + Clock + Print + Threads + Sync>(rt: &R) -> io:
     Ok(())
 }
 
+/// How many calls each thread of a shared machine makes.
+const CALLS: u32 = 100_000;
+
 /// What the arguments ask for.
 enum Asked {
     Usage,
     Kernels,
+    Shared,
     Unknown,
 }
 
@@ -48,10 +55,13 @@ fn read_arguments(rt: &HostRuntime) -> io::Result<Asked> {
     let Some(word) = words.next() else {
         return Ok(Asked::Usage);
     };
-    if word.as_str() == "kernels" && words.next().is_none() {
-        Ok(Asked::Kernels)
-    } else {
-        Ok(Asked::Unknown)
+    if words.next().is_some() {
+        return Ok(Asked::Unknown);
+    }
+    match word.as_str() {
+        "kernels" => Ok(Asked::Kernels),
+        "shared" => Ok(Asked::Shared),
+        _ => Ok(Asked::Unknown),
     }
 }
 
@@ -59,6 +69,10 @@ fn main(rt: HostRuntime) -> io::Result<ExitCode> {
     match read_arguments(&rt)? {
         Asked::Kernels => {
             kernels(&rt)?;
+            Ok(ExitCode::SUCCESS)
+        }
+        Asked::Shared => {
+            shared::rows(&rt, CALLS)?;
             Ok(ExitCode::SUCCESS)
         }
         Asked::Usage => {

@@ -14,4 +14,4 @@ pub record IsKept (b : Inside) : Type 0 where
   pub ticketed : IsTicketed b.entries.items
   pub lawful_callers : HasLawfulCallers b.entries.items
   -- the next ticket of each caller is the number of its calls
-  pub counted : (k : ℕ) → k < caller_limit → slice_index b.tickets k ≡ length (calls_by k b.entries.items)
+  pub counted : (k : ℕ) → k < caller_limit → slice_index b.tickets.value k ≡ length (calls_by k b.entries.items)

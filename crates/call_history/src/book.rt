@@ -25,8 +25,8 @@ pub const CALLER_LIMIT: usize = 64;
 pub struct Book {
     memory: Memory,
     entries: Vec<Entry>,
-    /// The next ticket of each caller.
-    tickets: [u64; CALLER_LIMIT],
+    /// The next ticket of each caller. It lies apart, so that a book is moved by few bytes.
+    tickets: Box<[u64; CALLER_LIMIT]>,
 }
 
 impl Model for Book {
@@ -51,7 +51,7 @@ impl Book {
         Ok(Book {
             memory: Memory::new(alloc, room)?,
             entries: Vec::new(alloc),
-            tickets: [0; CALLER_LIMIT],
+            tickets: Box::new(alloc, [0; CALLER_LIMIT])?,
         })
     }
 
@@ -92,12 +92,12 @@ impl Book {
         };
         let place = self.entries.len() as u64;
         let ticket = self.tickets[caller as usize];
-        self.tickets[caller as usize] = ticket + 1;
         self.entries.push_reserved(Entry {
             caller,
             ticket,
             call,
         });
+        self.tickets[caller as usize] = ticket + 1;
         Ok((place, reply))
     }
 

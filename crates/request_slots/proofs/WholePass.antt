@@ -23,7 +23,7 @@ use Rattle.request_slots.specs.Seating.{IsDistinct}
 use Rattle.request_slots.specs.WholePass.{IsRun, Taking, Telling, asker}
 use Rattle.request_slots.proofs.RequestLists.{distinct-push, request_by-middle, without_middle, middle_asks}
 
-request_by-front : (k i : ℕ) (rs : List Request) (call : Call) → request_by k (rs ++ request i call ∷ []) ≡ None → (k ≢ i) × (request_by k rs ≡ None)
+pub request_by-front : (k i : ℕ) (rs : List Request) (call : Call) → request_by k (rs ++ request i call ∷ []) ≡ None → (k ≢ i) × (request_by k rs ≡ None)
 request_by-front k i rs call e = let m = request_by-middle k i rs [] call e in (m.0, subst (λ l. request_by k l ≡ None) (append-nil rs) m.1)
 
 -- without the last of distinct requests the others are left
@@ -38,11 +38,11 @@ is_in-last (x ∷ xs) i = go (x == i) (is_in-last xs i)
     go true e = refl
     go false e = e
 
-is_in-more : (xs : List ℕ) (i k : ℕ) → k ≢ i → is_in (xs ++ i ∷ []) k ≡ is_in xs k
+pub is_in-more : (xs : List ℕ) (i k : ℕ) → k ≢ i → is_in (xs ++ i ∷ []) k ≡ is_in xs k
 is_in-more [] i k other = ap (λ b. b || false) (ne_eqb i k (λ e. other (sym e)))
 is_in-more (x ∷ xs) i k other = ap (λ b. (x == k) || b) (is_in-more xs i k other)
 
-take-set-push : (xs : List ℕ) (n x : ℕ) → n < length xs → take (n + 1) (set xs n x) ≡ take n xs ++ x ∷ []
+pub take-set-push : (xs : List ℕ) (n x : ℕ) → n < length xs → take (n + 1) (set xs n x) ≡ take n xs ++ x ∷ []
 take-set-push [] n x lt = absurd (omega arith)
 take-set-push (y ∷ xs) zero x lt = refl
 take-set-push (y ∷ xs) (suc n) x lt = ap (λ (k : ℕ). take k (y ∷ set xs n x)) more ∙ ap (λ l. y ∷ l) (take-set-push xs n x (omega arith))
@@ -66,7 +66,7 @@ run_refuses old new k call back room_is unchanged same_call = record {
       (fits_refused old.room line old.history rs os k call same fresh f);
 }
 
-tried_next : (tried : List ℕ) (i : ℕ) → ((k : ℕ) → k < i → is_in tried k ≡ true) → (k : ℕ) → k < i + 1 → is_in (tried ++ i ∷ []) k ≡ true
+pub tried_next : (tried : List ℕ) (i : ℕ) → ((k : ℕ) → k < i → is_in tried k ≡ true) → (k : ℕ) → k < i + 1 → is_in (tried ++ i ∷ []) k ≡ true
 tried_next tried i below k lt = dite (ℕ_discrete k i) (λ same. subst (λ (z : ℕ). is_in (tried ++ i ∷ []) z ≡ true) (sym same) (is_in-last tried i))
     (λ other. is_in-more tried i k other ∙ below k (omega arith))
 
@@ -154,7 +154,7 @@ outcome_by-at (t ∷ ts) (x ∷ os) r o rs qs same e = go (t.caller == r.caller)
     go true later e = absurd (cc e)
     go false later e = later e
 
-distinct_last : (ts : List Request) (i : ℕ) (call : Call) → IsDistinct (ts ++ request i call ∷ []) → request_by i ts ≡ None
+pub distinct_last : (ts : List Request) (i : ℕ) (call : Call) → IsDistinct (ts ++ request i call ∷ []) → request_by i ts ≡ None
 distinct_last [] i call d = refl
 distinct_last (t ∷ ts) i call d = let front = request_by-front t.caller i ts call d.0 in
     ap (λ b. cond {A = Option (List Call)} b (Some (t.call ∷ [])) (request_by i ts)) (ne_eqb t.caller i front.0) ∙ distinct_last ts i call d.1
@@ -214,6 +214,7 @@ telling_next callers before now now' outcomes os o numbers count n is_next is ne
       has = refl;
       now_is = ap (λ (k : Known). passing k (strikes (pass_in now) next.number)) t.now_is;
       line_is = t.line_is;
+      tried_is = t.tried_is;
       committed = t.committed;
       asked_later = r ∷ t.asked_later;
       told_later = o ∷ t.told_later;

@@ -1,4 +1,5 @@
--- A whole pass, as the tests of this crate make it: requests are taken and run one by one, then committed, and each is told.
+-- A whole pass, as the tests of this crate make it and, but for the order of runs, the crate above: requests are taken and run
+-- one by one, then committed, and each is told.
 -- `IsRun` is one call that is run, `Taking` a pass before its commit, and `Telling` one after it.
 use Rattle.std.specs.Prelude.{◌≡◌, ℕ, ◌<◌, ◌≤◌, true, false, List, [], ◌∷◌, ◌++◌, length, map, take, None}
 use Rattle.cvl_text.specs.declared.call.Call.{Call}
@@ -43,6 +44,7 @@ pub record Telling (callers : ℕ) (before now : Known) (outcomes : List Outcome
   pub has : HasDesk now
   pub now_is : now ≡ passing before (pass_in now)
   pub line_is : (pass_in now).line ≡ (pass_in before).line
+  pub tried_is : (pass_in now).tried ≡ (pass_in before).tried
   pub committed : (pass_in now).committed ≡ true
   pub asked_later : List Request
   pub told_later : List Outcome

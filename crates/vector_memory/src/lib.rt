@@ -8,7 +8,7 @@ mod name;
 mod tests;
 mod value;
 
-pub use memory::{ITEM_LIMIT, Memory, NAME_LIMIT, ROOM_LIMIT, StoreFault};
+pub use memory::{ITEM_LIMIT, Memory, NAME_LIMIT, ROOM_LIMIT, StoreFault, is_lawful_room};
 pub use name::Name;
 pub use segment_desc::OutOfMemory;
 pub use value::Value;

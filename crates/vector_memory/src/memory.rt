@@ -1,10 +1,11 @@
-ghost use Rattle.std.specs.Prelude.{◌≡◌, ◌==◌, ℕ, ◌≤◌, None, Some, length, position, IfOk, IfErr, IfSome, OnOk, OnErr, is_some};
+ghost use Rattle.std.specs.Prelude.{◌≡◌, ◌==◌, ◌↔◌, IsTrue, ℕ, ◌≤◌, None, Some, length, position, IfOk, IfErr, IfSome, OnOk, OnErr, is_some};
 ghost use Rattle.std.specs.Map.Iter.{ShowsInOrder, deref_pair};
 ghost use Rattle.std.specs.Option.{option_map, option_copied};
 ghost use Rattle.std.specs.Map.{keys_of};
 ghost use Rattle.indexmap.specs.IndexMap.{get, index_of, insert_entry, IsUnique};
 ghost use Rattle.vector_memory.specs.Contents.{content_of, size_of};
 ghost use Rattle.vector_memory.specs.Names.{same_name};
+ghost use Rattle.vector_memory.specs.States.{IsLawfulRoom};
 
 use crate::{Name, Value};
 use indexmap::IndexMap;
@@ -25,6 +26,13 @@ pub const NAME_LIMIT: usize = 4096;
 
 /// The number of names that a memory has a table for from the start.
 const FIRST_NAMES: usize = 16;
+
+/// Whether a memory may have this room: from 1 to `ROOM_LIMIT`.
+pub fn is_lawful_room(room: u64) -> bool
+    ensures { IsTrue result ↔ IsLawfulRoom room }
+{
+    1 <= room && room <= ROOM_LIMIT
+}
 
 /// Why a value was not stored.
 #[derive(Debug, Drop, Error, PartialEq, Eq)]

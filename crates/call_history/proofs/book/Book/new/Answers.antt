@@ -21,5 +21,5 @@ invariant_of-result c =
       replayed = replayed-new c.in_ok-new.field-0 c.args.room c.new-2.result.items c.in_ok-new.ensures c.new-2.ensures.items;
       ticketed = subst IsTicketed none (λ k. refl);
       lawful_callers = subst HasLawfulCallers none tt;
-      counted = λ k below. zeros 64 k ∙ ap (λ es. length (calls_by k es)) none;
+      counted = λ k below. ap (λ t. slice_index t k) c.in_ok-new-2.ensures.ok ∙ zeros 64 k ∙ ap (λ es. length (calls_by k es)) none;
     }

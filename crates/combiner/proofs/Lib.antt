@@ -1,0 +1,4 @@
+mod Seats
+mod Turns
+mod Batches
+mod PassSteps

@@ -1,0 +1,97 @@
+-- Each step of a pass leads to the next.
+-- `taking_misses` and `taking_hits` are the tries, `taking_batch` says that what was taken may be run, and `pass_serves` what the
+-- whole pass comes to.
+use Rattle.std.proofs.Common.{◌≡◌, ℕ, ◌+◌, ◌<◌, ◌≤◌, ◌&&◌, ◌||◌, Bool, true, false, List, [], ◌∷◌, ◌++◌, map, length, take, set, lt_of_not-le, None, refl, sym, ap, ◌∙◌, subst, arith, length-append}
+use Rattle.std.specs.List.{AllByRecursion}
+use mathlib.Core.List.{map-append}
+use Rattle.call_history.specs.declared.entry.Entry.{Entry}
+use Rattle.call_history.specs.declared.request.Request.{Request}
+use Rattle.call_history.specs.declared.request.Outcome.{Outcome}
+use Rattle.call_history.specs.History.{Begins}
+use Rattle.call_history.specs.Callers.{caller_limit}
+use Rattle.call_history.specs.Fits.{request, request_by}
+use Rattle.call_history.proofs.Beginnings.{begins_trans}
+use Rattle.call_history.proofs.Serving.{request_by-push_else}
+use Rattle.request_slots.specs.declared.known.Known.{Known}
+use Rattle.request_slots.specs.Passes.{is_in, tries, takes_on}
+use Rattle.request_slots.specs.Views.{pass_in, passing, locking, committing, unlocking, left_in}
+use Rattle.request_slots.specs.WholePass.{Telling, asker}
+use Rattle.request_slots.proofs.RequestLists.{distinct-push, request_by-middle}
+use Rattle.request_slots.proofs.WholePass.{is_in-more, take-set-push, tried_next}
+use Rattle.combiner.specs.Passes.{Taking, IsBatch, HasServed}
+
+-- a word with no request
+pub taking_misses : (before now now' : Known) (i : ℕ) (requests : List Request) (numbers : List ℕ) → now' ≡ passing now (tries (pass_in now) i)
+    → Taking before now i requests numbers → Taking before now' (i + 1) requests numbers
+taking_misses before now now' i requests numbers is t = subst (λ (k : Known). Taking before k (i + 1) requests numbers) (sym is) record {
+  has = refl;
+  now_is = ap (λ (k : Known). passing k (tries (pass_in now) i)) t.now_is;
+  line_is = t.line_is;
+  open_yet = t.open_yet;
+  tried = tried_next (pass_in now).tried i t.tried;
+  untried = λ k le. is_in-more (pass_in now).tried i k (λ e. omega arith) ∙ t.untried k (omega arith);
+  untaken = λ k le. t.untaken k (omega arith);
+  distinct = t.distinct;
+  requests_are = t.requests_are;
+  few = let few = t.few in omega arith;
+  numbered = t.numbered;
+}
+
+-- a request that was taken
+pub taking_hits : (before now now' : Known) (i : ℕ) (r : Request) (requests : List Request) (numbers : List ℕ) → r.caller ≡ i → now' ≡ passing now (takes_on (pass_in now) i r.call) → length requests < length numbers
+    → Taking before now i requests numbers → Taking before now' (i + 1) (requests ++ r ∷ []) (set numbers (length requests) i)
+taking_hits before now now' i r requests numbers at is room t =
+    let fresh = t.untaken i (omega arith) in
+    let mine : r ≡ request i r.call = ap (λ (k : ℕ). request k r.call) at in
+    subst (λ (k : Known). Taking before k (i + 1) (requests ++ r ∷ []) (set numbers (length requests) i)) (sym is) record {
+      has = refl;
+      now_is = ap (λ (k : Known). passing k (takes_on (pass_in now) i r.call)) t.now_is;
+      line_is = t.line_is;
+      open_yet = t.open_yet;
+      tried = tried_next (pass_in now).tried i t.tried;
+      untried = λ k le. is_in-more (pass_in now).tried i k (λ e. omega arith) ∙ t.untried k (omega arith);
+      untaken = λ k le. request_by-push_else k i (pass_in now).taken r.call (λ e. omega arith) ∙ t.untaken k (omega arith);
+      distinct = distinct-push (pass_in now).taken i r.call t.distinct fresh;
+      requests_are = λ j. t.requests_are j ++ mine j ∷ [];
+      few = let few = t.few in omega (arith, length-append requests (r ∷ []));
+      numbered = ap (λ (k : ℕ). take k (set numbers (length requests) i)) (length-append requests (r ∷ [])) ∙ (take-set-push numbers (length requests) i room
+          ∙ (ap (λ l. l ++ i ∷ []) t.numbered ∙ (ap (λ (k : ℕ). map asker requests ++ k ∷ []) (sym at) ∙ sym (map-append asker requests (r ∷ [])))));
+    }
+
+-- the same, where its parts have other names
+pub taking_same : (before now : Known) (i : ℕ) (requests requests' : List Request) (numbers numbers' : List ℕ) → requests' ≡ requests → numbers' ≡ numbers
+    → Taking before now i requests numbers → Taking before now i requests' numbers'
+taking_same before now i requests requests' numbers numbers' a b t = subst (λ (z : List Request × (List ℕ)). Taking before now i z.0 z.1) (λ j. (sym a j, sym b j)) t
+
+-- requests of callers below a number
+inside_all : (callers : ℕ) (rs : List Request) → callers ≤ caller_limit → ((k : ℕ) → callers ≤ k → request_by k rs ≡ None) → AllByRecursion (λ r. r.caller < caller_limit) rs
+inside_all callers [] small none = tt
+inside_all callers (r ∷ rs) small none =
+    let below : r.caller < callers = lt_of_not-le (λ far. (request_by-middle r.caller r.caller [] rs r.call (none r.caller far)).0 refl) in
+    (omega arith, inside_all callers rs small (λ k far. (request_by-middle k r.caller [] rs r.call (none k far)).1))
+
+pub taking_batch : (before now : Known) (callers : ℕ) (requests : List Request) (numbers : List ℕ) → callers ≤ caller_limit → Taking before now callers requests numbers → IsBatch requests
+taking_batch before now callers requests numbers small t = subst IsBatch (sym t.requests_are) record { distinct = t.distinct; lawful = inside_all callers (pass_in now).taken small t.untaken }
+
+and_true : (b : Bool) → (b && true) ≡ b
+and_true true = refl
+and_true false = refl
+
+-- the steps of a pass, one after the other
+pub pass_serves : (callers : ℕ) (c k1 k2 k3 k4 k5 : Known) (line book : List Entry) (outcomes : List Outcome) (requests : List Request) (numbers : List ℕ) → k1 ≡ locking c line
+    → Taking k1 k2 callers requests numbers → Begins line book → k3 ≡ committing k2 (pass_in k2) book outcomes → Telling callers k3 k4 [] numbers 0 → k5 ≡ unlocking k4 (pass_in k4)
+    → c.number < callers → Begins c.seen line → HasServed c k5 (length requests)
+pass_serves callers c k1 k2 k3 k4 k5 line book outcomes requests numbers locked t grows committed told unlocked inside saw =
+    let second : k2 ≡ passing (locking c line) (pass_in k2) = t.now_is ∙ ap (λ (k : Known). passing k (pass_in k2)) locked in
+    let third : k3 ≡ committing (locking c line) (pass_in k2) book outcomes = committed ∙ ap (λ (k : Known). committing k (pass_in k2) book outcomes) second in
+    let fourth : k4 ≡ passing (committing (locking c line) (pass_in k2) book outcomes) (pass_in k4) = told.now_is ∙ ap (λ (k : Known). passing k (pass_in k4)) third in
+    let fifth : k5 ≡ unlocking (passing (committing (locking c line) (pass_in k2) book outcomes) (pass_in k4)) (pass_in k4) = unlocked ∙ ap (λ (k : Known). unlocking k (pass_in k4)) fourth in
+    let seen : (pass_in k4).line ≡ book = told.line_is ∙ ap (λ (k : Known). (pass_in k).line) committed in
+    let tried : is_in (pass_in k4).tried c.number ≡ true =
+    ap (λ (l : List ℕ). is_in l c.number) (told.tried_is ∙ ap (λ (k : Known). (pass_in k).tried) committed) ∙ t.tried c.number inside in
+    let own : (left_in c.phase && is_in (pass_in k4).tried c.number) ≡ left_in c.phase = ap (λ b. left_in c.phase && b) tried ∙ and_true (left_in c.phase) in
+    let counted : length requests ≡ length (pass_in k2).taken = ap length t.requests_are in (
+      book,
+      begins_trans c.seen line book saw grows,
+      fifth ∙ (λ i. record c { seen = seen i; settled = c.settled || own i; held = true; passes = c.passes ++ sym counted i ∷ []; pass = None }),
+    )

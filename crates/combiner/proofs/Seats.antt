@@ -1,0 +1,42 @@
+-- The callers of a new machine.
+-- `new_seats` says that the seats of a new table are new, `newcomers_are` who sits there, and `newcomers_new` what is known of them.
+use Rattle.std.proofs.Common.{◌≡◌, ℕ, zero, suc, ◌+◌, ◌≤◌, List, [], ◌∷◌, ◌++◌, map, append_assoc, refl, sym, ap, ◌∙◌, subst, arith}
+use Rattle.std.specs.Prelude.{All}
+use Rattle.std.proofs.lemmas.List.Elements.{All-append}
+use mathlib.Core.List.{map-append}
+use Rattle.request_slots.specs.Seating.{Machine, Seated, seated_at, seats_of}
+use Rattle.combiner.specs.Standing.{Standing, standing, newcomer, newcomers, IsNewAt, IsNewSeat}
+
+new_each : (m : Machine) (room n : ℕ) → n + 1 ≤ m.slots → All IsNewSeat (seats_of m room n)
+new_each m room zero few = λ k d lt. absurd (omega arith)
+new_each m room (suc n) few = All-append IsNewSeat (seats_of m room n) (seated_at m room n ∷ []) (new_each m room n (omega arith)) last
+  where
+    last : All IsNewSeat (seated_at m room n ∷ [])
+    last zero d lt = record { idle = refl; resting = record { no_desk = refl; one_call = tt; inside = omega arith; rests = λ _. (refl, refl) } }
+    last (suc k) d lt = absurd (omega arith)
+
+pub new_seats : (m : Machine) (room n : ℕ) (seats : List Seated) → n + 1 ≤ m.slots → seats ≡ seats_of m room n → All IsNewSeat seats
+new_seats m room n seats few is = subst (All IsNewSeat) (sym is) (new_each m room n few)
+
+pub newcomers_are : (m : Machine) (room n : ℕ) → map standing (seats_of m room n) ≡ newcomers m room n
+newcomers_are m room zero = refl
+newcomers_are m room (suc n) = map-append standing (seats_of m room n) (seated_at m room n ∷ []) ∙ ap (λ l. l ++ newcomer m room n ∷ []) (newcomers_are m room n)
+
+new_at : (m : Machine) (room n : ℕ) → All (IsNewAt m room) (newcomers m room n)
+new_at m room zero = λ k d lt. absurd (omega arith)
+new_at m room (suc n) = All-append (IsNewAt m room) (newcomers m room n) (newcomer m room n ∷ []) (new_at m room n) last
+  where
+    last : All (IsNewAt m room) (newcomer m room n ∷ [])
+    last zero d lt = record { machine_is = refl; room_is = refl; idle = refl; front_is = refl; record_is = refl; rests = λ _. (refl, refl) }
+    last (suc k) d lt = absurd (omega arith)
+
+pub newcomers_new : (m : Machine) (room n : ℕ) (callers : List Standing) → callers ≡ newcomers m room n → All (IsNewAt m room) callers
+newcomers_new m room n callers is = subst (All (IsNewAt m room)) (sym is) (new_at m room n)
+
+-- one more seat is given to a caller
+pub given_next : (given : List Standing) (seat : Seated) (before rest : List Seated) (all : List Standing) (c : Standing) → before ≡ seat ∷ rest → c ≡ standing seat → given ++ map standing before ≡ all → All IsNewSeat before
+    → ((given ++ c ∷ []) ++ map standing rest ≡ all) × All IsNewSeat rest
+given_next given seat before rest all c e is was new = (
+  append_assoc given (c ∷ []) (map standing rest) ∙ (ap (λ d. given ++ d ∷ map standing rest) is ∙ (ap (λ l. given ++ map standing l) (sym e) ∙ was)),
+  λ k d lt. let all_new : All IsNewSeat (seat ∷ rest) = subst (All IsNewSeat) e new in all_new (suc k) d (omega arith),
+)

@@ -1,0 +1,142 @@
+-- What a caller knows after a call.
+-- `collected_says` is an outcome as `poll` tells it; `waiting_begins`, `waiting_combines`, `waiting_answered`
+-- and `waiting_given_back` are the turns of `call`.
+use Rattle.std.proofs.Common.{◌≡◌, ℕ, Bool, true, false, not, List, [], ◌∷◌, ◌++◌, refl, sym, ap, ◌∙◌, subst}
+use Rattle.cvl_text.specs.declared.call.Call.{Call}
+use Rattle.cvl_text.specs.declared.reply.Reply.{Reply}
+use Rattle.cvl_text.specs.Answers.{answer_of}
+use Rattle.call_history.specs.declared.entry.Entry.{Entry}
+use Rattle.call_history.specs.declared.request.Outcome.{Outcome}
+use Rattle.call_history.specs.declared.request.Outcome.TheVariants.{Answered, Refused}
+use Rattle.call_history.specs.History.{Begins}
+use Rattle.call_history.specs.Answers.{Answers}
+use Rattle.call_history.specs.Fits.{fate_of}
+use Rattle.call_history.proofs.Beginnings.{begins_self, begins_trans}
+use Rattle.request_slots.specs.declared.known.Known.{Known}
+use Rattle.request_slots.specs.declared.known.Phase.{Phase}
+use Rattle.request_slots.specs.declared.known.Phase.TheVariants.{Idle, Left}
+use Rattle.request_slots.specs.Views.{left_in, left_calls, left_start, longer, Collected}
+use Rattle.request_slots.specs.Seating.{Seated}
+use Rattle.combiner.specs.declared.answers.Polled.{Polled}
+use Rattle.combiner.specs.declared.answers.Polled.TheVariants as poll
+use Rattle.combiner.specs.declared.answers.Combined.{Combined}
+use Rattle.combiner.specs.declared.answers.Combined.TheVariants as combine
+use Rattle.combiner.specs.Standing.{Standing, standing, IsIdle, HasLeft, IsOneCall}
+use Rattle.combiner.specs.Cases.{IfAnswered, IfBack, OnBusy, OnServed, IfServed}
+use Rattle.combiner.specs.Says.{leaving, serving, IsAnswered, IsGivenBack, IsAnsweredTo, MeetsAnother}
+
+pub not_idle : (left idle : Bool) → idle ≡ not left → idle ≡ false → left ≡ true
+not_idle true idle is e = refl
+not_idle false idle is e = absurd (cc (is, e))
+
+one_left : (phase : Phase) → IsOneCall phase → left_in phase ≡ true → (call : Call) × (phase ≡ Left (call ∷ []) (left_start phase)) × (left_calls phase ≡ call ∷ [])
+one_left Idle one e = absurd (cc e)
+one_left (Left calls start) one e = (one.0, ap (λ (cs : List Call). Left cs start) one.1, one.1)
+
+pub has_left : (c : Standing) → IsOneCall c.phase → left_in c.phase ≡ true → HasLeft c
+has_left c one left = let mine = one_left c.phase one left in (mine.0, left_start c.phase, mine.1)
+
+-- what became of the call that was left, as `poll` tells it
+collected_answers : (s s' : Seated) (place : ℕ) (reply : Reply) → IsOneCall s.known.phase → left_in s.known.phase ≡ true
+    → Collected s.known (left_calls s.known.phase) (left_start s.known.phase) (fate_of (Answered place reply)) s'.known → s'.table_id ≡ s.table_id → IsAnswered (standing s) (standing s') place reply
+collected_answers s s' place reply one left told at =
+    let mine = one_left s.known.phase one left in
+    let t = subst (λ (cs : List Call). Collected s.known cs (left_start s.known.phase) (fate_of (Answered place reply)) s'.known) mine.2 told in
+    let seen : s'.known.seen ≡ longer s.known.seen t.0 = ap (λ (k : Known). k.seen) t.5 in
+    record {
+      call = mine.0;
+      start = left_start s.known.phase;
+      history = t.0;
+      left = mine.1;
+      ends_there = t.1;
+      answers = t.2;
+      after = λ i. standing record { table_id = at i; known = t.5 i };
+      later = subst (Begins s.known.seen) (sym seen) t.3;
+      whole = subst (Begins t.0) (sym seen) t.4;
+    }
+
+collected_gives_back : (s s' : Seated) (call : Call) → IsOneCall s.known.phase → left_in s.known.phase ≡ true
+    → Collected s.known (left_calls s.known.phase) (left_start s.known.phase) (fate_of (Refused call)) s'.known → s'.table_id ≡ s.table_id → IsGivenBack (standing s) (standing s') call
+collected_gives_back s s' call one left told at =
+    let mine = one_left s.known.phase one left in
+    let same : call ∷ [] ≡ mine.0 ∷ [] = told.0 ∙ mine.2 in
+    let call_is : mine.0 ≡ call = cc same in
+    (left_start s.known.phase, mine.1 ∙ ap (λ (c : Call). Left (c ∷ []) (left_start s.known.phase)) call_is, λ i. standing record { table_id = at i; known = told.1 i })
+
+abbrev pub polled_of : Outcome → Polled
+polled_of (Answered place reply) = poll.Answered place reply
+polled_of (Refused call) = poll.OutOfMemory call
+
+pub collected_says : (s s' : Seated) (o : Outcome) → IsOneCall s.known.phase → left_in s.known.phase ≡ true → Collected s.known (left_calls s.known.phase) (left_start s.known.phase) (fate_of o) s'.known → s'.table_id ≡ s.table_id
+    → IfAnswered (polled_of o) (IsAnswered (standing s) (standing s')) × IfBack (polled_of o) (IsGivenBack (standing s) (standing s'))
+collected_says s s' (Answered place reply) one left told at = (collected_answers s s' place reply one left told at, tt)
+collected_says s s' (Refused call) one left told at = (tt, collected_gives_back s s' call one left told at)
+
+-- a caller that has left this call, and waits for its answer, since it stood at c
+pub record IsWaiting (call : Call) (c d : Standing) : Type 0 where
+  pub number : d.number ≡ c.number
+  pub room : d.room ≡ c.room
+  pub phase : d.phase ≡ Left (call ∷ []) c.seen
+  pub own : d.own ≡ c.own
+  pub later : Begins c.seen d.seen
+
+pub waiting_begins : (call : Call) (c d : Standing) → d ≡ leaving c call → IsWaiting call c d
+waiting_begins call c d is = subst (IsWaiting call c) (sym is) record { number = refl; room = refl; phase = refl; own = refl; later = begins_self c.seen }
+
+pub waiting_combines : (call : Call) (c d d' : Standing) (says : Combined) → IsWaiting call c d → OnBusy says (MeetsAnother d d') → IfServed says (λ calls waves kernels. d' ≡ serving d d'.seen calls) → OnServed says (Begins d.seen d'.seen)
+    → IsWaiting call c d'
+waiting_combines call c d d' combine.Busy w busy served later = subst (IsWaiting call c) (sym busy.2) record { number = w.number; room = w.room; phase = w.phase; own = w.own; later = w.later }
+waiting_combines call c d d' (combine.Served calls waves kernels) w busy served later = record {
+  number = ap (λ (z : Standing). z.number) served ∙ w.number;
+  room = ap (λ (z : Standing). z.room) served ∙ w.room;
+  phase = ap (λ (z : Standing). z.phase) served ∙ w.phase;
+  own = ap (λ (z : Standing). z.own) served ∙ w.own;
+  later = begins_trans c.seen d.seen d'.seen w.later later;
+}
+
+pub waiting_waits : (call : Call) (c d d' : Standing) → IsWaiting call c d → d' ≡ d → IsWaiting call c d'
+waiting_waits call c d d' w is = subst (IsWaiting call c) (sym is) w
+
+pub waiting_not_idle : (call : Call) (c d : Standing) → IsWaiting call c d → IsIdle d → ⊥
+waiting_not_idle call c d w e = cc (w.phase, e)
+
+-- where a call ends: its caller is idle
+pub record IsEnded (c d : Standing) : Type 0 where
+  pub number : d.number ≡ c.number
+  pub room : d.room ≡ c.room
+  pub idle : IsIdle d
+  pub later : Begins c.seen d.seen
+
+pub waiting_answered : (call : Call) (c d d' : Standing) (place : ℕ) (reply : Reply) → IsWaiting call c d → IsAnswered d d' place reply → IsEnded c d' × IsAnsweredTo call c d' place reply
+waiting_answered call c d d' place reply w a =
+    let both : Left (a.call ∷ []) a.start ≡ Left (call ∷ []) c.seen = sym a.left ∙ w.phase in
+    let calls : a.call ∷ [] ≡ call ∷ [] = cc both in let start : a.start ≡ c.seen = cc both in (
+      record {
+        number = ap (λ (z : Standing). z.number) a.after ∙ w.number;
+        room = ap (λ (z : Standing). z.room) a.after ∙ w.room;
+        idle = ap (λ (z : Standing). z.phase) a.after;
+        later = begins_trans c.seen d.seen d'.seen w.later a.later;
+      },
+      record {
+        history = a.history;
+        ends_there = a.ends_there;
+        answers = subst (λ (z : ℕ × (List Entry) × (List Call) × ℕ × (List Call)). Answers z.0 z.1 z.2 z.3 z.4 a.history (answer_of reply ∷ []))
+            (λ i. (w.room i, start i, w.own i, w.number i, calls i)) a.answers;
+        whole = a.whole;
+        record_is = ap (λ (z : Standing). z.own) a.after ∙ (λ i. w.own i ++ calls i);
+      },
+    )
+
+pub waiting_given_back : (call back : Call) (c d d' : Standing) → IsWaiting call c d → IsGivenBack d d' back → IsEnded c d' × (back ≡ call) × (d'.own ≡ c.own)
+waiting_given_back call back c d d' w t =
+    let both : Left (back ∷ []) t.0 ≡ Left (call ∷ []) c.seen = sym t.1 ∙ w.phase in
+    let calls : back ∷ [] ≡ call ∷ [] = cc both in let same : back ≡ call = cc calls in (
+      record {
+        number = ap (λ (z : Standing). z.number) t.2 ∙ w.number;
+        room = ap (λ (z : Standing). z.room) t.2 ∙ w.room;
+        idle = ap (λ (z : Standing). z.phase) t.2;
+        later = subst (Begins c.seen) (sym (ap (λ (z : Standing). z.seen) t.2)) w.later;
+      },
+      same,
+      ap (λ (z : Standing). z.own) t.2 ∙ w.own,
+    )

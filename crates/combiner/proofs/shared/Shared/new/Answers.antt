@@ -1,0 +1,5 @@
+use Rattle.combiner.proofs.Seats.{newcomers_new}
+use Rattle.combiner.proofs.shared.Shared.new.Goals as goal
+
+pub returns-in-Ok-clause-each : goal.returns-in-Ok-clause-each
+returns-in-Ok-clause-each c = newcomers_new _ c.args.room c.args.callers _ c.in-Ok.ensures.callers

@@ -1,0 +1,5 @@
+pub mod Standing
+pub mod Cases
+pub mod Making
+pub mod Says
+pub mod Passes

@@ -1,0 +1,50 @@
+-- A pass: each word is tried, what was taken is run, and after the commit each caller is told.
+-- `Taking` is a pass up to the last try, `IsBatch` what may be run in it, and `HasServed` what a whole pass comes to.
+use Rattle.std.specs.Prelude.{◌≡◌, ℕ, ◌<◌, ◌≤◌, true, false, ◌||◌, List, [], ◌∷◌, ◌++◌, length, map, take, reverse, None}
+use Rattle.std.specs.List.{AllByRecursion}
+use Rattle.call_history.specs.declared.entry.Entry.{Entry}
+use Rattle.call_history.specs.declared.request.Request.{Request}
+use Rattle.call_history.specs.declared.request.Outcome.{Outcome}
+use Rattle.call_history.specs.History.{Begins}
+use Rattle.call_history.specs.Callers.{caller_limit}
+use Rattle.call_history.specs.Books.{BookState}
+use Rattle.call_history.specs.Fits.{request_by, Fits}
+use Rattle.request_slots.specs.declared.known.Known.{Known}
+use Rattle.request_slots.specs.Passes.{is_in}
+use Rattle.request_slots.specs.Views.{pass_in, passing, left_in, HasDesk}
+use Rattle.request_slots.specs.Seating.{IsDistinct}
+use Rattle.request_slots.specs.WholePass.{asker}
+
+-- the words below i were tried, and these requests were taken, of the callers with these numbers
+pub record Taking (before now : Known) (i : ℕ) (requests : List Request) (numbers : List ℕ) : Type 0 where
+  pub has : HasDesk now
+  pub now_is : now ≡ passing before (pass_in now)
+  pub line_is : (pass_in now).line ≡ (pass_in before).line
+  pub open_yet : (pass_in now).committed ≡ false
+  pub tried : (k : ℕ) → k < i → is_in (pass_in now).tried k ≡ true
+  pub untried : (k : ℕ) → i ≤ k → is_in (pass_in now).tried k ≡ false
+  pub untaken : (k : ℕ) → i ≤ k → request_by k (pass_in now).taken ≡ None
+  pub distinct : IsDistinct (pass_in now).taken
+  pub requests_are : requests ≡ (pass_in now).taken
+  pub few : length requests ≤ i
+  pub numbered : take (length requests) numbers ≡ map asker requests
+
+-- requests of distinct callers
+pub record IsBatch (requests : List Request) : Type 0 where
+  pub distinct : IsDistinct requests
+  pub lawful : AllByRecursion (λ r. r.caller < caller_limit) requests
+
+-- the requests that are left stand in reverse order, and those before them were run
+pub record Running (requests : List Request) (opened : BookState) (rest : List Request) (book : BookState) (outcomes : List Outcome) : Type 0 where
+  pub done : List Request
+  pub all : requests ≡ done ++ reverse rest
+  pub fits : Fits opened.room opened.history done book.history outcomes
+  pub paired : length outcomes ≡ length done
+  pub room_is : book.room ≡ opened.room
+
+-- a caller that served so many calls in a pass has seen this line, and what it left has an outcome
+abbrev pub past : Known → List Entry → ℕ → Known
+past c line count = record c { seen = line; settled = c.settled || left_in c.phase; held = true; passes = c.passes ++ count ∷ []; pass = None }
+
+abbrev pub HasServed : Known → Known → ℕ → Type 0
+HasServed before now count = (line : List Entry) × Begins before.seen line × (now ≡ past before line count)

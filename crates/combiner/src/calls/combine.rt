@@ -1,0 +1,44 @@
+ghost use Rattle.std.specs.Prelude.{◌≡◌, ◌<◌, ◌≤◌};
+ghost use Rattle.call_history.specs.History.{Begins};
+ghost use Rattle.combiner.specs.Standing.{callers_of, Rests};
+ghost use Rattle.combiner.specs.Cases.{OnBusy, OnServed, IfServed};
+ghost use Rattle.combiner.specs.Says.{MeetsAnother, serving};
+
+use crate::answers::Combined;
+use crate::caller::Caller;
+use crate::pass::pass;
+use crate::shared::Shared;
+use std::alloc::Global;
+use std::thread::Threads;
+
+impl Shared {
+    /// Serves all calls that are left, unless another caller has the book, which cannot be with one caller. It does not wait.
+    /// The caller has then seen the whole history, and if it has left a call, it is settled: its next poll tells what became
+    /// of that.
+    pub fn combine(
+        &self,
+        rt: &(impl Threads + Sync),
+        alloc: Global,
+        caller: &mut Caller,
+    ) -> Combined
+        requires { caller.old.machine ≡ self.now }
+        ensures machine { caller.new.machine ≡ self.now }
+        ensures busy { OnBusy result (MeetsAnother caller.old caller.new) }
+        ensures not_alone { OnBusy result (1 < callers_of self.now) }
+        ensures served { IfServed result (λ calls waves kernels. caller.new ≡ serving caller.old caller.new.seen calls) }
+        ensures later { OnServed result (Begins caller.old.seen caller.new.seen) }
+        ensures waves { IfServed result (λ calls waves kernels. waves ≤ calls) }
+        ensures few { IfServed result (λ calls waves kernels. calls ≤ callers_of self.now) }
+        ensures rests { Rests caller.new }
+    {
+        let Some(count) = pass(rt, alloc, &self.slots, &mut caller.seat, self.callers) else {
+            return Combined::Busy;
+        };
+        let calls = count as u64;
+        Combined::Served {
+            calls,
+            waves: calls,
+            kernels: 0,
+        }
+    }
+}

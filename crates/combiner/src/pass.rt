@@ -1,0 +1,132 @@
+//! One pass of a caller that serves what all callers left.
+
+ghost use Rattle.std.specs.Prelude.{◌≡◌, ◌+◌, ◌<◌, ◌≤◌, [], length, None, Some, IfSome, IfNone, vec_len, vec_capacity};
+ghost use Rattle.call_history.specs.Fits.{Fits};
+ghost use Rattle.request_slots.specs.Passes.{fresh_pass};
+ghost use Rattle.request_slots.specs.Views.{pass_in, Meets, Rests};
+ghost use Rattle.request_slots.specs.WholePass.{IsRun, Telling};
+ghost use Rattle.combiner.specs.Passes.{Taking, IsBatch, HasServed};
+
+use call_history::{Book, Outcome, Request};
+use request_slots::{Seat, Slots};
+use std::alloc::Global;
+use std::thread::Threads;
+
+/// Tries each word in turn, once. The callers of the requests taken stand in `numbers`.
+fn take_all(
+    slots: &Slots,
+    seat: &mut Seat,
+    callers: usize,
+    requests: &mut Vec<Request>,
+    numbers: &mut [usize; 64],
+)
+    requires place { seat.old.table_id ≡ slots.now }
+    requires callers { (callers + 1 ≡ slots.now.slots) × (callers ≤ 64) }
+    requires pass { seat.old.known.pass ≡ Some (fresh_pass (pass_in seat.old.known).line) }
+    requires empty { requests.old.items ≡ [] }
+    requires spaces { callers ≤ vec_capacity requests.old }
+    ensures place { seat.new.table_id ≡ slots.now }
+    ensures taken { Taking seat.old.known seat.new.known callers requests.new.items numbers.new }
+    ensures spaces { vec_capacity requests.new ≡ vec_capacity requests.old }
+{
+    for i in 0..callers {
+        if let Some(request) = slots.step_take(seat, i) {
+            numbers[requests.len()] = i;
+            requests.push_reserved(request);
+        }
+    }
+}
+
+/// Runs a request, and says what became of it.
+fn run(rt: &(impl Threads + Sync), alloc: Global, book: &mut Book, request: Request) -> Outcome
+    requires { request.caller < 64 }
+    ensures { IsRun book.old book.new request.caller request.call result }
+{
+    let Request { caller, call } = request;
+    match book.run(rt, alloc, caller, call) {
+        Ok((place, reply)) => Outcome::Answered { place, reply },
+        Err((call, _)) => Outcome::Refused(call),
+    }
+}
+
+/// Runs the requests in their order. What became of them stands in the same order.
+fn run_all(
+    rt: &(impl Threads + Sync),
+    alloc: Global,
+    book: &mut Book,
+    requests: &mut Vec<Request>,
+    outcomes: &mut Vec<Outcome>,
+)
+    requires batch { IsBatch requests.old.items }
+    requires empty { outcomes.old.items ≡ [] }
+    requires spaces { vec_len requests.old ≤ vec_capacity outcomes.old }
+    ensures fits { Fits book.old.room book.old.history requests.old.items book.new.history outcomes.new.items }
+    ensures paired { length outcomes.new.items ≡ length requests.old.items }
+    ensures room { book.new.room ≡ book.old.room }
+    ensures empty { requests.new.items ≡ [] }
+    ensures request_spaces { vec_capacity requests.new ≡ vec_capacity requests.old }
+    ensures outcome_spaces { vec_capacity outcomes.new ≡ vec_capacity outcomes.old }
+{
+    requests.reverse();
+    while let Some(request) = requests.pop() {
+        let outcome = run(rt, alloc, book, request);
+        outcomes.push_reserved(outcome);
+    }
+}
+
+/// Tells each outcome to its caller, the last one first.
+fn answer_all(
+    slots: &Slots,
+    seat: &mut Seat,
+    callers: usize,
+    numbers: &[usize; 64],
+    outcomes: &mut Vec<Outcome>,
+)
+    requires place { seat.old.table_id ≡ slots.now }
+    requires callers { (callers + 1 ≡ slots.now.slots) × (callers ≤ 64) }
+    requires count { vec_len outcomes.old ≤ 64 }
+    requires telling { Telling callers seat.old.known seat.old.known outcomes.old.items numbers.now (vec_len outcomes.old) }
+    ensures place { seat.new.table_id ≡ slots.now }
+    ensures told { Telling callers seat.old.known seat.new.known [] numbers.now 0 }
+    ensures empty { outcomes.new.items ≡ [] }
+    ensures spaces { vec_capacity outcomes.new ≡ vec_capacity outcomes.old }
+{
+    while let Some(outcome) = outcomes.pop() {
+        let left = outcomes.len();
+        slots.step_answer(seat, numbers[left], left, 0, outcome);
+    }
+}
+
+/// Serves what all callers left, unless another caller has the desk. How many calls were taken.
+pub(crate) fn pass(
+    rt: &(impl Threads + Sync),
+    alloc: Global,
+    slots: &Slots,
+    seat: &mut Seat,
+    callers: usize,
+) -> Option<usize>
+    requires place { seat.old.table_id ≡ slots.now }
+    requires callers { (callers + 1 ≡ slots.now.slots) × (callers ≤ 64) }
+    requires no_desk { seat.old.known.pass ≡ None }
+    ensures place { seat.new.table_id ≡ slots.now }
+    ensures served { IfSome result (HasServed seat.old.known seat.new.known) }
+    ensures few { IfSome result (λ count. count ≤ callers) }
+    ensures rests { IfSome result (λ _. Rests seat.new.known) }
+    ensures busy { IfNone result (Meets slots.now.slots seat.old.known seat.new.known) }
+{
+    let mut desk = slots.step_lock(seat)?;
+    let mut numbers = [0usize; 64];
+    take_all(slots, seat, callers, &mut desk.requests, &mut numbers);
+    let count = desk.requests.len();
+    run_all(
+        rt,
+        alloc,
+        &mut desk.book,
+        &mut desk.requests,
+        &mut desk.outcomes,
+    );
+    slots.step_commit(seat, &desk);
+    answer_all(slots, seat, callers, &numbers, &mut desk.outcomes);
+    slots.step_unlock(seat, desk);
+    Some(count)
+}

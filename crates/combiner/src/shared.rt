@@ -1,0 +1,99 @@
+ghost use Rattle.std.specs.Prelude.{◌≡◌, ℕ, ◌<◌, ◌≤◌, [], IfOk, IfErr, OnOk, OnErr, All};
+ghost use Rattle.vector_memory.specs.States.{IsLawfulRoom};
+ghost use Rattle.call_history.specs.History.{Begins};
+ghost use Rattle.call_history.specs.Callers.{calls_by};
+ghost use Rattle.request_slots.specs.Seating.{Machine};
+ghost use Rattle.combiner.specs.Standing.{callers_of, newcomers, IsNewAt};
+ghost use Rattle.combiner.specs.Making.{IsLawfulCount, IsMadeImpossible, IsSized};
+ghost use Rattle.combiner.specs.Says.{FindsAnother, HasOwnCalls};
+
+use crate::answers::Unfinished;
+use crate::caller::{Caller, seat_all};
+use crate::fault::MakeFault;
+use call_history::{Book, CALLER_LIMIT};
+use request_slots::{Desk, Slots};
+use std::alloc::Global;
+use std::marker::Model;
+use vector_memory::{OutOfMemory, is_lawful_room};
+
+/// The machine, shared by its callers. To a contract it is the machine's name.
+#[derive(Drop)]
+pub struct Shared {
+    pub(crate) slots: Slots,
+    pub(crate) callers: usize,
+}
+
+impl Model for Shared {
+    ghost Value = { Machine };
+
+    ghost view = { λ s. s.slots };
+
+    ghost invariant = { λ s. IsSized s.slots s.callers };
+}
+
+impl Shared {
+    /// A machine whose history is empty and whose memory has room for up to `room` items together, and its callers in the
+    /// order of their numbers.
+    pub fn new(alloc: Global, callers: u64, room: u64) -> Result<(Shared, Vec<Caller>), MakeFault>
+        ensures lawful { OnOk result (IsLawfulCount callers × IsLawfulRoom room) }
+        ensures fault { IfErr result (IsMadeImpossible callers room) }
+        ensures size { IfOk result (λ made. callers_of made.0 ≡ callers) }
+        ensures callers { IfOk result (λ made. made.1.items ≡ newcomers made.0 room callers) }
+        ensures each { IfOk result (λ made. All (IsNewAt made.0 room) made.1.items) }
+    {
+        if callers == 0 || callers > CALLER_LIMIT as u64 {
+            return Err(MakeFault::BadCallers);
+        }
+        if !is_lawful_room(room) {
+            return Err(MakeFault::BadRoom);
+        }
+        match Shared::with_callers(alloc, callers as usize, room) {
+            Ok(made) => Ok(made),
+            Err(OutOfMemory) => Err(MakeFault::OutOfMemory),
+        }
+    }
+
+    /// The book, unless another caller has it, which cannot be with one caller. Its history begins with what the closer has
+    /// seen, and has the closer's answered calls, and the call that it left if that was served.
+    pub fn close(self, caller: Caller) -> Result<Book, Unfinished>
+        requires { caller.machine ≡ self }
+        ensures room { IfOk result (λ book. book.room ≡ caller.room) }
+        ensures begins { IfOk result (λ book. Begins caller.seen book.history) }
+        ensures own { IfOk result (λ book. HasOwnCalls caller book.history) }
+        ensures no_strangers { IfOk result (λ book. (k : ℕ) → callers_of self ≤ k → calls_by k book.history ≡ []) }
+        ensures found { OnErr result (FindsAnother caller) }
+        ensures not_alone { OnErr result (1 < callers_of self) }
+    {
+        let Shared { slots, callers: _ } = self;
+        let Caller { seat } = caller;
+        let Some(desk) = slots.close(seat) else {
+            return Err(Unfinished);
+        };
+        let Desk {
+            book,
+            requests: _,
+            outcomes: _,
+        } = desk;
+        Ok(book)
+    }
+
+    fn with_callers(
+        alloc: Global,
+        callers: usize,
+        room: u64,
+    ) -> Result<(Shared, Vec<Caller>), OutOfMemory>
+        requires count { IsLawfulCount callers }
+        requires room { IsLawfulRoom room }
+        ensures size { IfOk result (λ made. callers_of made.0 ≡ callers) }
+        ensures callers { IfOk result (λ made. made.1.items ≡ newcomers made.0 room callers) }
+    {
+        let desk = Desk {
+            book: Book::new(alloc, room)?,
+            requests: Vec::with_capacity(alloc, callers)?,
+            outcomes: Vec::with_capacity(alloc, callers)?,
+        };
+        let (slots, seats) = Slots::new(alloc, callers, desk)?;
+        let made = seat_all(alloc, seats)?;
+        Ok((Shared { slots, callers }, made))
+    }
+}

@@ -1,0 +1,7 @@
+//! The machine with ample memory, by one thread and by several.
+
+mod alone;
+mod asking;
+mod at_once;
+mod pair;
+mod table;

@@ -1,0 +1,116 @@
+//! What the tests ask of a machine, and what they expect to be told.
+
+ghost use Rattle.std.specs.Prelude.{◌≡◌};
+ghost use Rattle.combiner.specs.Standing.{IsIdle};
+
+use crate::{Caller, Combined, Polled, Shared};
+use call_history::Book;
+use cvl_text::{Call, Reply};
+use std::alloc::Global;
+use std::sync::Wait;
+use std::thread::Threads;
+
+/// Whether this is the text of a reply.
+fn is_text(alloc: Global, reply: &Reply, wanted: &[u8]) -> bool {
+    let mut text = Vec::new(alloc);
+    reply.write(&mut text).is_ok() && text.as_slice() == wanted
+}
+
+/// Whether the call of this line is left.
+pub(crate) fn posts(alloc: Global, shared: &Shared, caller: &mut Caller, line: &[u8]) -> bool
+    requires { caller.old.machine ≡ shared.now }
+    ensures { caller.new.machine ≡ shared.now }
+{
+    let Ok(call) = Call::read(alloc, line) else {
+        return false;
+    };
+    shared.post(caller, call).is_ok()
+}
+
+/// Whether a poll answers that no call is left.
+pub(crate) fn polls_idle(shared: &Shared, caller: &mut Caller) -> bool
+    requires { caller.old.machine ≡ shared.now }
+    ensures { caller.new.machine ≡ shared.now }
+{
+    matches!(&shared.poll(caller), Polled::Idle)
+}
+
+/// Whether a poll answers that nothing has become of the call yet.
+pub(crate) fn polls_waiting(shared: &Shared, caller: &mut Caller) -> bool
+    requires { caller.old.machine ≡ shared.now }
+    ensures { caller.new.machine ≡ shared.now }
+{
+    matches!(&shared.poll(caller), Polled::Waiting)
+}
+
+/// Whether a poll answers this place, and a reply of this text.
+pub(crate) fn polls(
+    alloc: Global,
+    shared: &Shared,
+    caller: &mut Caller,
+    place: u64,
+    wanted: &[u8],
+) -> bool
+    requires { caller.old.machine ≡ shared.now }
+    ensures { caller.new.machine ≡ shared.now }
+{
+    let Polled::Answered { place: at, reply } = shared.poll(caller) else {
+        return false;
+    };
+    at == place && is_text(alloc, &reply, wanted)
+}
+
+/// Whether a pass serves so many calls.
+pub(crate) fn serves(
+    rt: &(impl Threads + Sync),
+    alloc: Global,
+    shared: &Shared,
+    caller: &mut Caller,
+    calls: u64,
+) -> bool
+    requires { caller.old.machine ≡ shared.now }
+    ensures { caller.new.machine ≡ shared.now }
+{
+    let Combined::Served {
+        calls: served,
+        waves,
+        kernels,
+    } = shared.combine(rt, alloc, caller)
+    else {
+        return false;
+    };
+    served == calls && waves == calls && kernels == 0
+}
+
+/// Whether the call of this line is answered at this place, with a reply of this text.
+pub(crate) fn calls(
+    rt: &(impl Threads + Wait + Sync),
+    alloc: Global,
+    shared: &Shared,
+    caller: &mut Caller,
+    line: &[u8],
+    place: u64,
+    wanted: &[u8],
+) -> bool
+    requires machine { caller.old.machine ≡ shared.now }
+    requires idle { IsIdle caller.old }
+    ensures machine { caller.new.machine ≡ shared.now }
+    ensures idle { IsIdle caller.new }
+{
+    let Ok(call) = Call::read(alloc, line) else {
+        return false;
+    };
+    let Ok((at, reply)) = shared.call(rt, alloc, caller, call) else {
+        return false;
+    };
+    at == place && is_text(alloc, &reply, wanted)
+}
+
+/// Whether the entry at a place is of this caller, with this ticket.
+pub(crate) fn stands_at(book: &Book, place: usize, caller: u64, ticket: u64) -> bool {
+    if place >= book.len() {
+        return false;
+    }
+    let entry = book.entry(place);
+    entry.caller == caller && entry.ticket == ticket
+}
