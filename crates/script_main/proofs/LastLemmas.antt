@@ -6,6 +6,10 @@ use Rattle.script_main.specs.Scripts.{IsOneLine, lines_of, text_of, bad_line_of,
 use Rattle.script_main.proofs.PieceLemmas.{lines_of-last}
 use Rattle.script_main.proofs.StopLemmas.{text_of-good, bad_line_of-good}
 
+pub lines_of-nothing : lines_of [] ≡ []
+unfolding lines_of
+lines_of-nothing = refl
+
 pub text_of-nothing : (m : State) (n : ℕ) → text_of m n [] ≡ []
 unfolding text_of lines_of
 text_of-nothing m n = refl

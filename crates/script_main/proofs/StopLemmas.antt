@@ -1,15 +1,16 @@
 -- How a run stops. `line-stop`: a first line is not served; `write-stop`: its reply is not written; `stop-behind`: a stop behind
 -- lines that are served is a stop of the whole.
-use Rattle.std.proofs.Common.{◌≡◌, ℕ, ◌+◌, ◌<◌, true, List, [], ◌∷◌, ◌++◌, refl, sym, ap, ◌∙◌, subst, Option, Some, append_assoc, Result, Ok, Err, OnErr, IfErr}
+use Rattle.std.proofs.Common.{◌≡◌, ℕ, ◌+◌, ◌<◌, true, List, [], ◌∷◌, ◌++◌, length, refl, sym, ap, ◌∙◌, subst, Option, Some, append_assoc, Result, Ok, Err, OnErr, IfErr}
 use Rattle.std.proofs.lemmas.List.{append-nil}
 use Rattle.vector_memory.specs.States.{State}
 use Rattle.script_main.specs.declared.line.LineFault.{LineFault}
 use Rattle.script_main.specs.declared.line.LineFault.TheVariants as faults
 use Rattle.script_main.specs.declared.fault.RunFault.{RunFault}
 use Rattle.script_main.specs.declared.fault.RunFault.TheVariants as stops
-use Rattle.script_main.specs.Scripts.{Bad, text_from, first_bad, lines_of, text_of, bad_line_of, bad_text, line_of, is_good, line_text, memory_after_line}
+use Rattle.script_main.specs.Scripts.{line_limit, IsOneLine, Bad, text_from, first_bad, lines_of, text_of, bad_line_of, bad_text, line_of, is_good, line_text, memory_after_line}
 use Rattle.script_main.specs.Streams.{Awaits, HasBegun}
 use Rattle.script_main.specs.Runs.{Serves, IsTextOfSome, IsFarewell, IsStop, IsCounted}
+use Rattle.script_main.proofs.PieceLemmas.{lines_of-long}
 use Rattle.script_main.proofs.StreamLemmas.{Awaits-then, HasBegun-more, HasBegun-then}
 use Rattle.script_main.proofs.ServeLemmas.{Serves-text, Serves-bad_line, Serves-some}
 
@@ -73,6 +74,14 @@ unserved-stop (stops.BadLine k) m n script waiting old new f = absurd f
 unserved-stop stops.OutOfMemory m n script waiting old new f = memory-stop m n script waiting old new f
 unserved-stop stops.Read m n script waiting old new f = absurd f
 unserved-stop stops.Write m n script waiting old new f = HasBegun-more old new waiting (text_of m n script) f
+
+-- what stands behind the last line feed is not kept, whatever comes behind it
+pub keep-stop : (fault : LineFault) (result : RunFault) (m : State) (n : ℕ) (text more waiting : List ℕ) (old new : Option (List ℕ)) → IsOneLine text
+    → (fault ≡ faults.Bad → line_limit < length text) → IsFarewell fault result waiting n old new → IsStop result m n (text ++ more) waiting old new
+keep-stop faults.Bad result m n text more waiting old new one long f =
+    let first = lines_of-long text more one (long refl) in
+    line-stop m n (text ++ more) first.0 first.1 first.3 faults.Bad result waiting old new (λ is. first.2) f
+keep-stop faults.OutOfMemory result m n text more waiting old new one long f = unserved-stop result m n (text ++ more) waiting old new f
 
 -- a run that stopped behind what was served, of which waiting was not written
 pub stop-behind : (result : RunFault) (m k : State) (n i : ℕ) (text made rest more waiting : List ℕ) (old mid new : Option (List ℕ))

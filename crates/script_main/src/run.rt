@@ -8,16 +8,13 @@ ghost use Rattle.script_main.specs.Streams.{Awaits, HasBegun};
 ghost use Rattle.script_main.specs.Runs.{Serves, IsFarewell, IsStop};
 
 use crate::fault::RunFault;
-use crate::line::{LINE_LIMIT, LineFault, serve_line};
+use crate::gather::{GATHERED, flush};
+use crate::line::{LineFault, keep_rest, serve_line, split_line};
 use crate::streams::{Failed, Sink, write_all};
 use call_history::Book;
-use memchr::memchr;
 use segment_desc::OutOfMemory;
 use std::alloc::Global;
 use std::thread::Threads;
-
-/// How many bytes of replies are gathered before they are written.
-pub(crate) const GATHERED: usize = 65536;
 
 /// A script under way on one book.
 #[derive(Drop)]
@@ -29,32 +26,6 @@ pub(crate) struct Run {
     pub partial: Vec<u8>,
     /// The replies that are not written yet.
     pub waiting: Vec<u8>,
-}
-
-/// The text before the first line feed, and the text after it.
-fn split_line(text: &[u8]) -> Option<(&[u8], &[u8])>
-    ensures { MatchOption result (IsOneLine text.now)
-        (λ p. (text.now ≡ p.0.now ++ 10 ∷ p.1.now) × IsOneLine p.0.now) }
-{
-    let Some(end) = memchr(b'\n', text) else {
-        return None;
-    };
-    Some((&text[..end], &text[end + 1..]))
-}
-
-/// Writes the replies that wait.
-fn flush<W: Sink>(waiting: &mut Vec<u8>, writer: &mut W) -> Result<(), Failed>
-    requires { W.can_write writer.old }
-    ensures written { OnOk result (Awaits (W.written writer.old) (W.written writer.new) [] waiting.old.items) }
-    ensures none { OnOk result (waiting.new.items ≡ []) }
-    ensures counted { OnOk result (W.failures writer.new ≡ W.failures writer.old) }
-    ensures ready { OnOk result (W.can_write writer.new) }
-    ensures begun { OnErr result (HasBegun (W.written writer.old) (W.written writer.new) waiting.old.items) }
-    ensures failed { OnErr result (W.failures writer.old < W.failures writer.new) }
-{
-    write_all(writer, waiting)?;
-    waiting.clear();
-    Ok(())
 }
 
 /// Writes the words on a bad line.
@@ -193,14 +164,9 @@ impl Run {
             self.old.waiting.items (W.written writer.old) (W.written writer.new)) }
         ensures failed { result ≡ Err RunFault.Write → W.failures writer.old < W.failures writer.new }
     {
-        if rest.len() > LINE_LIMIT - self.partial.len() {
-            let fault = LineFault::Bad;
+        if let Err(fault) = keep_rest(&mut self.partial, rest) {
             return Err(stop(&mut self.waiting, self.number, fault, writer));
         }
-        let Ok(()) = self.partial.extend_from_slice(rest) else {
-            let fault = LineFault::OutOfMemory;
-            return Err(stop(&mut self.waiting, self.number, fault, writer));
-        };
         match flush(&mut self.waiting, writer) {
             Ok(()) => Ok(()),
             Err(_) => Err(RunFault::Write),

@@ -1,6 +1,7 @@
 ghost use Rattle.std.specs.Prelude.{◌≡◌, ◌==◌, ◌↔◌, IsTrue, ℕ, ◌≤◌, None, Some, length, position, IfOk, IfErr, IfSome, OnOk, OnErr, is_some};
 ghost use Rattle.std.specs.Map.Iter.{ShowsInOrder, deref_pair};
 ghost use Rattle.std.specs.Option.{option_map, option_copied};
+ghost use Rattle.std.specs.List.{IsDistinct};
 ghost use Rattle.std.specs.Map.{keys_of};
 ghost use Rattle.indexmap.specs.IndexMap.{get, index_of, insert_entry, IsUnique};
 ghost use Rattle.vector_memory.specs.Contents.{content_of, size_of};
@@ -130,9 +131,10 @@ impl Memory {
         self.room
     }
 
-    /// The values with their names, in the order in which the names came.
+    /// The values with their names, in the order in which the names came. No name comes twice.
     pub fn iter(&self) -> Iter<'_, Name, Value>
         ensures rest { contents result ≡ self.now.entries }
+        ensures distinct { IsDistinct same_name (keys_of self.now.entries) }
         ensures runs { ShowsInOrder (deref_pair {K = Name} {X = Value}) }
     {
         self.values.iter()

@@ -16,6 +16,8 @@ mod program;
 #[cfg(test)]
 mod rows;
 #[cfg(test)]
+mod settled;
+#[cfg(test)]
 mod streams;
 #[cfg(test)]
 mod vectors;

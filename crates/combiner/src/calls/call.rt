@@ -8,10 +8,9 @@ use crate::caller::Caller;
 use crate::shared::Shared;
 use cvl_text::{Call, Reply};
 use std::alloc::Global;
-use std::hint;
 use std::sync::Wait;
-use std::thread;
 use std::thread::Threads;
+use std::{hint, thread};
 use vector_memory::OutOfMemory;
 
 /// How often a caller tries again before it hands the processor on.

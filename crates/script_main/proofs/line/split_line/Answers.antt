@@ -1,7 +1,7 @@
 use Rattle.std.proofs.Common.{◌+◌}
 use Rattle.std.proofs.lemmas.List.{take_rest}
 use Rattle.script_main.proofs.FeedLemmas.{no-feed, no-feed-before, cut-at}
-use Rattle.script_main.proofs.run.split_line.Goals as goal
+use Rattle.script_main.proofs.line.split_line.Goals as goal
 
 pub returns-in_default : goal.returns-in_default
 returns-in_default c = no-feed c.args.text.now c.in_default.ensures
