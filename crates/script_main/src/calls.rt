@@ -5,8 +5,8 @@ ghost use Rattle.cvl_text.specs.Tasks.{task_of};
 ghost use Rattle.script_main.specs.Scripts.{Bad, Asks, line_of, is_good};
 ghost use Rattle.script_main.specs.Readings.{lists_of, tasks_at, AddsCall};
 
-use crate::line::{LINE_LIMIT, LineFault, caller_of, is_comment};
-use cvl_text::{Call, ReadFault, next_word};
+use crate::line::{LineFault, ask_in, read_call};
+use cvl_text::Call;
 use segment_desc::OutOfMemory;
 use std::alloc::Global;
 
@@ -39,7 +39,6 @@ fn add_call(
 }
 
 /// Adds what a line asks for.
-#[tactic(auto, unfolding(crate::specs::Scripts::line_of))]
 pub(crate) fn read_line(
     alloc: Global,
     calls: &mut Vec<Vec<Call>>,
@@ -49,23 +48,10 @@ pub(crate) fn read_line(
     ensures adds { OnOk result (AddsCall (lists_of calls.old) (lists_of calls.new) (line_of line.now)) }
     ensures bad { IsErrOf result LineFault.Bad → line_of line.now ≡ Bad }
 {
-    if line.len() > LINE_LIMIT {
-        return Err(LineFault::Bad);
-    }
-    let Some((first, text)) = next_word(line) else {
+    let Some((caller, text)) = ask_in(line)? else {
         return Ok(());
     };
-    if is_comment(first) {
-        return Ok(());
-    }
-    let Some(caller) = caller_of(first) else {
-        return Err(LineFault::Bad);
-    };
-    let call = match Call::read(alloc, text) {
-        Ok(call) => call,
-        Err(ReadFault::BadCall) => return Err(LineFault::Bad),
-        Err(ReadFault::OutOfMemory) => return Err(LineFault::OutOfMemory),
-    };
+    let call = read_call(alloc, text)?;
     match add_call(alloc, calls, usize::from(caller), call) {
         Ok(()) => Ok(()),
         Err(OutOfMemory) => Err(LineFault::OutOfMemory),

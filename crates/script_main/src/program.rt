@@ -1,6 +1,6 @@
 //! The program, but for its streams and its arguments.
 
-ghost use Rattle.std.specs.Prelude.{◌≡◌, ◌↔◌, ℕ, IsTrue, map, string_bytes, MatchOption};
+ghost use Rattle.std.specs.Prelude.{◌≡◌, ℕ, map, string_bytes, MatchOption};
 ghost use Rattle.std.specs.Fmt.{decimal};
 ghost use Rattle.vector_memory.specs.States.{IsLawfulRoom, empty};
 ghost use Rattle.script_main.specs.Programs.{Asks, AsksNothing, HasRun, IsUsage, status_of};
@@ -10,17 +10,10 @@ use crate::serial::run_serial;
 use crate::streams::{Sink, Source, write_all};
 use std::alloc::Global;
 use std::thread::Threads;
-use vector_memory::ROOM_LIMIT;
+use vector_memory::{ROOM_LIMIT, is_lawful_room};
 
 /// What is written where the words ask for nothing that the program does.
 const USAGE: &[u8] = b"usage: cvl serial|threads [room]\n";
-
-/// Whether a memory may have this room.
-fn is_lawful(room: u64) -> bool
-    ensures { IsTrue result ↔ IsLawfulRoom room }
-{
-    1 <= room && room <= ROOM_LIMIT
-}
 
 /// The room that a word writes: a decimal number without needless zeros, 1 to 67,108,864.
 fn room_of(word: &str) -> Option<u64>
@@ -34,7 +27,11 @@ fn room_of(word: &str) -> Option<u64>
     if digits.format(room) != word {
         return None;
     }
-    if is_lawful(room) { Some(room) } else { None }
+    if is_lawful_room(room) {
+        Some(room)
+    } else {
+        None
+    }
 }
 
 /// The room in which the words ask for a serial run.

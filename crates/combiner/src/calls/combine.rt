@@ -27,7 +27,7 @@ impl Shared {
         ensures not_alone { OnBusy result (1 < callers_of self.now) }
         ensures served { IfServed result (λ calls waves kernels. caller.new ≡ serving caller.old caller.new.seen calls) }
         ensures later { OnServed result (Begins caller.old.seen caller.new.seen) }
-        ensures waves { IfServed result (λ calls waves kernels. waves ≤ calls) }
+        ensures one_by_one { IfServed result (λ calls waves kernels. (waves ≡ calls) × (kernels ≡ 0)) }
         ensures few { IfServed result (λ calls waves kernels. calls ≤ callers_of self.now) }
         ensures rests { Rests caller.new }
     {

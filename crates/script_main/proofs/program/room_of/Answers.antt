@@ -16,9 +16,9 @@ returns-then-ne c = λ room lawful spelled.
     let text : c.format.result.now ≡ c.args.word.now = c.format.ensures.text ∙ ap decimal same ∙ sym spelled in
     search rules
 
-pub returns-else-is_lawful : goal.returns-else-is_lawful
-returns-else-is_lawful c = λ room lawful spelled.
+pub returns-else-is_lawful_room : goal.returns-else-is_lawful_room
+returns-else-is_lawful_room c = λ room lawful spelled.
     let read : c.parse.result ≡ Ok room = parse-decimal 64 room c.args.word.now c.parse.result (omega arith) (omega arith) spelled c.parse.ensures.value.0 in
     let same : c.in-Ok.room ≡ room = cc in
-    let is : c.is_lawful.result ≡ true = c.is_lawful.ensures.1 (subst (λ (n : ℕ). IsLawfulRoom n) (sym same) lawful) in
+    let is : c.is_lawful_room.result ≡ true = c.is_lawful_room.ensures.1 (subst (λ (n : ℕ). IsLawfulRoom n) (sym same) lawful) in
     absurd cc
