@@ -6,7 +6,7 @@ ghost use Rattle.vector_memory.specs.States.{IsLawfulRoom, empty};
 ghost use Rattle.script_main.specs.Programs.{Asks, AsksNothing, HasRun, IsUsage, status_of};
 
 use crate::fault::RunFault;
-use crate::serial::run_serial;
+use crate::serial::run_serial_at_exit;
 use crate::streams::{Sink, Source, write_all};
 use std::alloc::Global;
 use std::thread::Threads;
@@ -93,6 +93,6 @@ pub fn run_program<R: Source, W: Sink>(
             Err(_) => 4,
         };
     };
-    let ran = run_serial(rt, alloc, room, reader, writer);
+    let ran = run_serial_at_exit(rt, alloc, room, reader, writer);
     status_of(&ran)
 }
