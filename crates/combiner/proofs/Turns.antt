@@ -1,11 +1,10 @@
 -- What a caller knows after a call.
 -- `collected_says` is an outcome as `poll` tells it; `waiting_begins`, `waiting_combines`, `waiting_answered`
--- and `waiting_given_back` are the turns of `call`.
+-- and `waiting_given_back` are the turns of `wait`.
 use Rattle.std.proofs.Common.{◌≡◌, ℕ, Bool, true, false, not, List, [], ◌∷◌, ◌++◌, refl, sym, ap, ◌∙◌, subst}
 use Rattle.cvl_text.specs.declared.call.Call.{Call}
 use Rattle.cvl_text.specs.declared.reply.Reply.{Reply}
 use Rattle.cvl_text.specs.Answers.{answer_of}
-use Rattle.call_history.specs.declared.entry.Entry.{Entry}
 use Rattle.call_history.specs.declared.request.Outcome.{Outcome}
 use Rattle.call_history.specs.declared.request.Outcome.TheVariants.{Answered, Refused}
 use Rattle.call_history.specs.History.{Begins}
@@ -23,7 +22,7 @@ use Rattle.combiner.specs.declared.answers.Combined.{Combined}
 use Rattle.combiner.specs.declared.answers.Combined.TheVariants as combine
 use Rattle.combiner.specs.Standing.{Standing, standing, IsIdle, HasLeft, IsOneCall}
 use Rattle.combiner.specs.Cases.{IfAnswered, IfBack, OnBusy, OnServed, IfServed}
-use Rattle.combiner.specs.Says.{leaving, serving, IsAnswered, IsGivenBack, IsAnsweredTo, MeetsAnother}
+use Rattle.combiner.specs.Says.{leaving, serving, IsAnswered, IsAnsweredAtLast, IsWhatWasLeft, IsGivenBack, MeetsAnother}
 
 pub not_idle : (left idle : Bool) → idle ≡ not left → idle ≡ false → left ≡ true
 not_idle true idle is e = refl
@@ -72,21 +71,21 @@ pub collected_says : (s s' : Seated) (o : Outcome) → IsOneCall s.known.phase �
 collected_says s s' (Answered place reply) one left told at = (collected_answers s s' place reply one left told at, tt)
 collected_says s s' (Refused call) one left told at = (tt, collected_gives_back s s' call one left told at)
 
--- a caller that has left this call, and waits for its answer, since it stood at c
-pub record IsWaiting (call : Call) (c d : Standing) : Type 0 where
+-- a caller that waits for what it left, since it stood at c
+pub record IsWaiting (c d : Standing) : Type 0 where
   pub number : d.number ≡ c.number
   pub room : d.room ≡ c.room
-  pub phase : d.phase ≡ Left (call ∷ []) c.seen
+  pub phase : d.phase ≡ c.phase
   pub own : d.own ≡ c.own
   pub later : Begins c.seen d.seen
 
-pub waiting_begins : (call : Call) (c d : Standing) → d ≡ leaving c call → IsWaiting call c d
-waiting_begins call c d is = subst (IsWaiting call c) (sym is) record { number = refl; room = refl; phase = refl; own = refl; later = begins_self c.seen }
+pub waiting_begins : (c : Standing) → IsWaiting c c
+waiting_begins c = record { number = refl; room = refl; phase = refl; own = refl; later = begins_self c.seen }
 
-pub waiting_combines : (call : Call) (c d d' : Standing) (says : Combined) → IsWaiting call c d → OnBusy says (MeetsAnother d d') → IfServed says (λ calls waves kernels. d' ≡ serving d d'.seen calls) → OnServed says (Begins d.seen d'.seen)
-    → IsWaiting call c d'
-waiting_combines call c d d' combine.Busy w busy served later = subst (IsWaiting call c) (sym busy.2) record { number = w.number; room = w.room; phase = w.phase; own = w.own; later = w.later }
-waiting_combines call c d d' (combine.Served calls waves kernels) w busy served later = record {
+pub waiting_combines : (c d d' : Standing) (says : Combined) → IsWaiting c d → OnBusy says (MeetsAnother d d') → IfServed says (λ calls waves kernels. d' ≡ serving d d'.seen calls) → OnServed says (Begins d.seen d'.seen)
+    → IsWaiting c d'
+waiting_combines c d d' combine.Busy w busy served later = subst (IsWaiting c) (sym busy.2) record { number = w.number; room = w.room; phase = w.phase; own = w.own; later = w.later }
+waiting_combines c d d' (combine.Served calls waves kernels) w busy served later = record {
   number = ap (λ (z : Standing). z.number) served ∙ w.number;
   room = ap (λ (z : Standing). z.room) served ∙ w.room;
   phase = ap (λ (z : Standing). z.phase) served ∙ w.phase;
@@ -94,11 +93,11 @@ waiting_combines call c d d' (combine.Served calls waves kernels) w busy served 
   later = begins_trans c.seen d.seen d'.seen w.later later;
 }
 
-pub waiting_waits : (call : Call) (c d d' : Standing) → IsWaiting call c d → d' ≡ d → IsWaiting call c d'
-waiting_waits call c d d' w is = subst (IsWaiting call c) (sym is) w
+pub waiting_waits : (c d d' : Standing) → IsWaiting c d → d' ≡ d → IsWaiting c d'
+waiting_waits c d d' w is = subst (IsWaiting c) (sym is) w
 
-pub waiting_not_idle : (call : Call) (c d : Standing) → IsWaiting call c d → IsIdle d → ⊥
-waiting_not_idle call c d w e = cc (w.phase, e)
+pub waiting_not_idle : (c d : Standing) → HasLeft c → IsWaiting c d → IsIdle d → ⊥
+waiting_not_idle c d left w e = cc (left.2, w.phase, e)
 
 -- where a call ends: its caller is idle
 pub record IsEnded (c d : Standing) : Type 0 where
@@ -107,36 +106,38 @@ pub record IsEnded (c d : Standing) : Type 0 where
   pub idle : IsIdle d
   pub later : Begins c.seen d.seen
 
-pub waiting_answered : (call : Call) (c d d' : Standing) (place : ℕ) (reply : Reply) → IsWaiting call c d → IsAnswered d d' place reply → IsEnded c d' × IsAnsweredTo call c d' place reply
-waiting_answered call c d d' place reply w a =
-    let both : Left (a.call ∷ []) a.start ≡ Left (call ∷ []) c.seen = sym a.left ∙ w.phase in
-    let calls : a.call ∷ [] ≡ call ∷ [] = cc both in let start : a.start ≡ c.seen = cc both in (
-      record {
-        number = ap (λ (z : Standing). z.number) a.after ∙ w.number;
-        room = ap (λ (z : Standing). z.room) a.after ∙ w.room;
-        idle = ap (λ (z : Standing). z.phase) a.after;
-        later = begins_trans c.seen d.seen d'.seen w.later a.later;
-      },
-      record {
-        history = a.history;
-        ends_there = a.ends_there;
-        answers = subst (λ (z : ℕ × (List Entry) × (List Call) × ℕ × (List Call)). Answers z.0 z.1 z.2 z.3 z.4 a.history (answer_of reply ∷ []))
-            (λ i. (w.room i, start i, w.own i, w.number i, calls i)) a.answers;
-        whole = a.whole;
-        record_is = ap (λ (z : Standing). z.own) a.after ∙ (λ i. w.own i ++ calls i);
-      },
-    )
+pub waiting_answered : (c d d' : Standing) (place : ℕ) (reply : Reply) → IsWaiting c d → IsAnswered d d' place reply → IsEnded c d' × IsAnsweredAtLast c d' place reply
+waiting_answered c d d' place reply w a = (
+  record {
+    number = ap (λ (z : Standing). z.number) a.after ∙ w.number;
+    room = ap (λ (z : Standing). z.room) a.after ∙ w.room;
+    idle = ap (λ (z : Standing). z.phase) a.after;
+    later = begins_trans c.seen d.seen d'.seen w.later a.later;
+  },
+  record {
+    call = a.call;
+    start = a.start;
+    history = a.history;
+    left = sym w.phase ∙ a.left;
+    ends_there = a.ends_there;
+    answers = subst (λ (z : ℕ × (List Call) × ℕ). Answers z.0 a.start z.1 z.2 (a.call ∷ []) a.history (answer_of reply ∷ [])) (λ i. (w.room i, w.own i, w.number i)) a.answers;
+    whole = a.whole;
+    record_is = ap (λ (z : Standing). z.own) a.after ∙ ap (λ (own : List Call). own ++ a.call ∷ []) w.own;
+  },
+)
 
-pub waiting_given_back : (call back : Call) (c d d' : Standing) → IsWaiting call c d → IsGivenBack d d' back → IsEnded c d' × (back ≡ call) × (d'.own ≡ c.own)
-waiting_given_back call back c d d' w t =
-    let both : Left (back ∷ []) t.0 ≡ Left (call ∷ []) c.seen = sym t.1 ∙ w.phase in
-    let calls : back ∷ [] ≡ call ∷ [] = cc both in let same : back ≡ call = cc calls in (
-      record {
-        number = ap (λ (z : Standing). z.number) t.2 ∙ w.number;
-        room = ap (λ (z : Standing). z.room) t.2 ∙ w.room;
-        idle = ap (λ (z : Standing). z.phase) t.2;
-        later = subst (Begins c.seen) (sym (ap (λ (z : Standing). z.seen) t.2)) w.later;
-      },
-      same,
-      ap (λ (z : Standing). z.own) t.2 ∙ w.own,
-    )
+pub waiting_given_back : (back : Call) (c d d' : Standing) → IsWaiting c d → IsGivenBack d d' back → IsEnded c d' × IsWhatWasLeft c back × (d'.own ≡ c.own)
+waiting_given_back back c d d' w t = (
+  record {
+    number = ap (λ (z : Standing). z.number) t.2 ∙ w.number;
+    room = ap (λ (z : Standing). z.room) t.2 ∙ w.room;
+    idle = ap (λ (z : Standing). z.phase) t.2;
+    later = subst (Begins c.seen) (sym (ap (λ (z : Standing). z.seen) t.2)) w.later;
+  },
+  (t.0, sym w.phase ∙ t.1),
+  ap (λ (z : Standing). z.own) t.2 ∙ w.own,
+)
+
+-- a caller that has left a call, and nothing since
+pub left_by_leaving : (call : Call) (c b : Standing) → b ≡ leaving c call → HasLeft b
+left_by_leaving call c b is = (call, c.seen, ap (λ (z : Standing). z.phase) is)

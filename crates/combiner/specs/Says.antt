@@ -1,5 +1,5 @@
 -- What each call does to what is known of a caller. Each function on `Standing` is one call; what it does not name stays as it was.
--- `IsAnswered` and `IsAnsweredTo` are what an answer says, `FindsAnother` what it says to find the book taken.
+-- `IsAnswered`, `IsAnsweredAtLast` and `IsAnsweredTo` are what an answer says, `FindsAnother` what it says to find the book taken.
 use Rattle.std.specs.Prelude.{◌≡◌, ◌≢◌, ◌⊎◌, ℕ, ◌+◌, ◌<◌, true, false, ◌||◌, List, [], ◌∷◌, ◌++◌, length}
 use Rattle.cvl_text.specs.declared.call.Call.{Call}
 use Rattle.cvl_text.specs.declared.reply.Reply.{Reply}
@@ -57,6 +57,21 @@ pub record IsAnswered (c d : Standing) (place : ℕ) (reply : Reply) : Type 0 wh
 -- the call that was left came back: record and front are as before
 abbrev pub IsGivenBack : Standing → Standing → Call → Type 0
 IsGivenBack c d call = (start : List Entry) × HasLeftCall c call start × (d ≡ resting c)
+
+-- The call that was left was answered at last: as `IsAnswered`, whatever its caller saw while it waited.
+pub record IsAnsweredAtLast (c d : Standing) (place : ℕ) (reply : Reply) : Type 0 where
+  pub call : Call
+  pub start : List Entry
+  pub history : List Entry
+  pub left : HasLeftCall c call start
+  pub ends_there : length history ≡ place + 1
+  pub answers : Answers c.room start c.own c.number (call ∷ []) history (answer_of reply ∷ [])
+  pub whole : Begins history d.seen
+  pub record_is : d.own ≡ c.own ++ call ∷ []
+
+-- the call that was left is this one
+abbrev pub IsWhatWasLeft : Standing → Call → Type 0
+IsWhatWasLeft c call = (start : List Entry) × HasLeftCall c call start
 
 -- This call was answered at once: as `IsAnswered`, with front and record as they were before the call.
 pub record IsAnsweredTo (call : Call) (c d : Standing) (place : ℕ) (reply : Reply) : Type 0 where

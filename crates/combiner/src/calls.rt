@@ -5,3 +5,4 @@ mod combine;
 mod look;
 mod poll;
 mod post;
+mod wait;

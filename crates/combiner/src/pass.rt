@@ -118,12 +118,13 @@ pub(crate) fn pass(
     let mut numbers = [0usize; 64];
     take_all(slots, seat, callers, &mut desk.requests, &mut numbers);
     let count = desk.requests.len();
+    let open = &mut *desk;
     run_all(
         rt,
         alloc,
-        &mut desk.book,
-        &mut desk.requests,
-        &mut desk.outcomes,
+        &mut open.book,
+        &mut open.requests,
+        &mut open.outcomes,
     );
     slots.step_commit(seat, &desk);
     answer_all(slots, seat, callers, &numbers, &mut desk.outcomes);

@@ -73,7 +73,7 @@ impl Shared {
             book,
             requests: _,
             outcomes: _,
-        } = desk;
+        } = Box::into_inner(desk);
         Ok(book)
     }
 
@@ -92,7 +92,7 @@ impl Shared {
             requests: Vec::with_capacity(alloc, callers)?,
             outcomes: Vec::with_capacity(alloc, callers)?,
         };
-        let (slots, seats) = Slots::new(alloc, callers, desk)?;
+        let (slots, seats) = Slots::new(alloc, callers, Box::new(alloc, desk)?)?;
         let made = seat_all(alloc, seats)?;
         Ok((Shared { slots, callers }, made))
     }

@@ -1,5 +1,6 @@
 -- A try at the lock keeps the rule, whether the desk is taken or another caller is found to have it.
 -- `locks` is what the table asks of the step.
+use Rattle.std.specs.Global.{Box}
 use Rattle.std.proofs.Common.{◌≡◌, ◌≢◌, ◌⊎◌, ℕ, ◌+◌, ◌<◌, Bool, true, List, [], ◌++◌, get_or, eqb, Option, Some, None, refl, sym, ap, ◌∙◌, subst, ⊎_elim, inl, arith, eq-eqb, ne_eqb}
 use mathlib.Core.Logic.{dite}
 use mathlib.Core.Option.{some, none}
@@ -144,19 +145,19 @@ locks room slots id k me is number no_pass s r deep at small =
     go knows free e =
         let c : Known = known_of me.0 in let x : ℕ = get_or s.words 0 0 in
         let h = subst (LockHolds room r.n r.line x (get_elem? s.homes 0)) e r.lock_holds in
-        let d : Desk = h.desk in let rests = h.rests in
+        let d : Box Desk = h.desk in let rests = h.rests in
         let sized : slots ≡ r.n + 1 = sym deep ∙ r.deep in
         let request_spaces = rests.request_spaces in let outcome_spaces = rests.outcome_spaces in (
-          Caller (locking c d.book.history),
+          Caller (locking c d.value.book.history),
           takes 0 (Kept d),
           h.home_is,
-          subst (λ (z : Bool × ℕ). Lawful room (stepped s 0 (either z.0 (z.1 + 1) x) id me.1 (Caller (locking c d.book.history)) (takes 0 (Kept d)))) (λ i. (sym (eq-eqb x 0 h.word_is) i, number i))
-              (lock_keeps room s r id c (at ∙ ap (λ (v : View). some v) is) d e rests),
+          subst (λ (z : Bool × ℕ). Lawful room (stepped s 0 (either z.0 (z.1 + 1) x) id me.1 (Caller (locking c d.value.book.history)) (takes 0 (Kept d)))) (λ i. (sym (eq-eqb x 0 h.word_is) i, number i))
+              (lock_keeps room s r id c (at ∙ ap (λ (v : View). some v) is) d.value e rests),
           (
             (λ _. (
               d,
               record { no_requests = rests.no_requests; no_outcomes = rests.no_outcomes; request_spaces = omega arith; outcome_spaces = omega arith },
-              shows_line room slots s r id c d sized knows rests,
+              shows_line room slots s r id c d.value sized knows rests,
               refl,
               refl,
             )),

@@ -1,5 +1,6 @@
 -- The table is lawful when it is made, and the steps that make its callers keep the rule.
 -- `opens` is what the table asks of a new table, `makes_from` and `arrives` of the split and the step that make a caller.
+use Rattle.std.specs.Global.{Box}
 use Rattle.std.proofs.Common.{◌≡◌, ◌≢◌, ◌⊎◌, ℕ, zero, suc, ◌+◌, ◌<◌, ◌≤◌, true, false, List, [], ◌∷◌, ◌++◌, length, get_or, set, None, refl, sym, ap, ◌∙◌, subst, ⊎_elim, inl, inr, arith, map, replicate, add-one}
 use mathlib.Core.Logic.{dite}
 use mathlib.Core.Option.{some, none, some-injective, some-ne-none}
@@ -48,7 +49,7 @@ first_knows : (room n j : ℕ) (v : View) → get_elem? (Maker room 0 ∷ []) j 
 first_knows room n zero v e = subst (Knows room n 0 [] free (λ _. blank) 0) (some-injective (Maker room 0) v e) (refl, refl, refl)
 first_knows room n (suc j) v e = absurd (some-ne-none v (sym e))
 
-pub opens : (room n : ℕ) (words : List ℕ) (slots : List Slot) (d : Desk) → words ≡ replicate (n + 2) 0 → slots ≡ Kept d ∷ replicate n Nothing → d.book.room ≡ room → d.book.history ≡ [] → IsSpare (n + 1) d
+pub opens : (room n : ℕ) (words : List ℕ) (slots : List Slot) (d : Box Desk) → words ≡ replicate (n + 2) 0 → slots ≡ Kept d ∷ replicate n Nothing → d.value.book.room ≡ room → d.value.book.history ≡ [] → IsSpare (n + 1) d.value
     → Lawful room (opening words slots (Maker room 0))
 opens room n words slots d words_are slots_are room_is no_entries spare =
     let request_spaces = spare.request_spaces in let outcome_spaces = spare.outcome_spaces in

@@ -1,5 +1,6 @@
 -- A desk that goes home keeps the rule.
 -- `unlocks` is what the table asks of the step.
+use Rattle.std.specs.Global.{Box}
 use Rattle.std.proofs.Common.{◌≡◌, ◌≢◌, ◌⊎◌, ℕ, ◌+◌, ◌<◌, Bool, true, false, ◌&&◌, ◌||◌, List, [], ◌∷◌, get_or, Some, None, refl, sym, ap, ◌∙◌, subst, ⊎_elim, inl, inr, arith}
 use mathlib.Core.Option.{some, none}
 use lib.ListN.{get_elem?}
@@ -91,21 +92,21 @@ module _ (room : ℕ) (s : State Slot View) (r : Lawful room s) (id : ℕ) (c : 
       }
 
   -- the desk goes home
-  unlock_keeps : (p : Pass) (d : Desk) → c.pass ≡ Some p → p.taken ≡ [] → DeskRests room r.n p.line d → Lawful room (handed s 0 (some (Kept d)) id (Caller (unlocking c p)))
+  unlock_keeps : (p : Pass) (d : Box Desk) → c.pass ≡ Some p → p.taken ≡ [] → DeskRests room r.n p.line d.value → Lawful room (handed s 0 (some (Kept d)) id (Caller (unlocking c p)))
   unlock_keeps p d has all_told rests =
       let locked = lock_is r.lock c.number p (sym has ∙ knows.pass_is) in
       let r' = relocked room s r (held_by c.number p) locked in
       let line_is : p.line ≡ r.line = r'.lock_holds.pass.line_is in
       let nothing : (k : ℕ) → request_by k p.taken ≡ None = λ k. ap (request_by k) all_told in
       lock_step room s r 0 (some (Kept d)) r.station free id (Caller (unlocking c p)) r.not_made
-      record { word_is = refl; desk = d; home_is = refl; rests = subst (λ l. DeskRests room r.n l d) line_is rests }
+      record { word_is = refl; desk = d; home_is = refl; rests = subst (λ l. DeskRests room r.n l d.value) line_is rests }
       (λ k lt. part_free room r.line (part_of (held_by c.number p) k) (part_of free k) (get_or s.words (k + 2) 0) (get_elem? s.homes (k + 1)) k (r.station k) (r.station k).held (nothing k) refl (r'.each_caller k lt))
       (unlock_knows p has all_told)
       (others_know room r.n r.made r.line r.line r.lock free r.station r.station c.number id knows.seat_is (begins_self r.line)
       (λ i other. sym (ap (λ l. pass_of l i) locked ∙ pass_elsewhere c.number i p other)) (λ i _. abides_self (r.station i)) (λ m e. e)) tt
 
-pub unlocks : (room slots id : ℕ) (old me : Sat) (d : Desk) → me ≡ (old.0, (0, Kept d) ∷ rest old.1) → old.0 ≡ Caller (known_of old.0) → (known_of old.0).pass ≡ Some (pass_in (known_of old.0))
-    → (pass_in (known_of old.0)).taken ≡ [] → d.book.history ≡ (pass_in (known_of old.0)).line → d.book.room ≡ (known_of old.0).room → IsSpare slots d
+pub unlocks : (room slots id : ℕ) (old me : Sat) (d : Box Desk) → me ≡ (old.0, (0, Kept d) ∷ rest old.1) → old.0 ≡ Caller (known_of old.0) → (known_of old.0).pass ≡ Some (pass_in (known_of old.0))
+    → (pass_in (known_of old.0)).taken ≡ [] → d.value.book.history ≡ (pass_in (known_of old.0)).line → d.value.book.room ≡ (known_of old.0).room → IsSpare slots d.value
     → Allows (Lawful room) slots id me 0 (λ _. 0) (λ _. Unlocks (step slots 0 0 0 none) me 0)
 unlocks room slots id old me d put is has all_told history_is room_is spare =
     subst (λ (m : Sat). Allows (Lawful room) slots id m 0 (λ _. 0) (λ _. Unlocks (step slots 0 0 0 none) m 0)) (sym put) go

@@ -1,5 +1,6 @@
 -- What each step tells the seat that makes it: of the step, the seat before, the number found at the word, and the seat after.
 -- The seat is its view and the slots in its hand. The changes of the view are those of `Views`.
+use Rattle.std.specs.Global.{Box}
 use Rattle.std.specs.Prelude.{◌≡◌, ◌≢◌, ℕ, ◌+◌, false, List, [], ◌∷◌, length}
 use Rattle.atomic_table.specs.Table.{Me, Step, rest}
 use Rattle.cvl_text.specs.declared.call.Call.{Call}
@@ -45,8 +46,8 @@ Collects st m found m' =
 -- the desk is taken, or another caller is found to have it
 abbrev pub Locks : Step Slot → Sat → ℕ → Sat → Type 0
 Locks st m found m' =
-    (found ≡ 0 → (d : Desk) × IsSpare st.slots d × ShowsLine st.slots (known_of m.0) d.book
-    × (m'.0 ≡ Caller (locking (known_of m.0) d.book.history)) × (m'.1 ≡ (0, Kept d) ∷ m.1))
+    (found ≡ 0 → (d : Box Desk) × IsSpare st.slots d.value × ShowsLine st.slots (known_of m.0) d.value.book
+    × (m'.0 ≡ Caller (locking (known_of m.0) d.value.book.history)) × (m'.1 ≡ (0, Kept d) ∷ m.1))
     × (found ≢ 0 → (c' : Known) × Meets st.slots (known_of m.0) c' × (m' ≡ (Caller c', m.1)))
 
 -- the request of caller st.word - 2 is taken, or its word only counts as tried

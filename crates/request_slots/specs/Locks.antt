@@ -1,5 +1,6 @@
 -- The third clause of the rule: the lock word names exactly the seat that has the desk.
 -- `LockHolds` says what word and slot of the desk are, `HolderSits` and `SitApart` that one seat alone is the holder's.
+use Rattle.std.specs.Global.{Box}
 use Rattle.std.specs.Prelude.{◌≡◌, ℕ, ◌+◌, ◌<◌, ◌≤◌, true, false, List, [], Option, Some, None, vec_capacity}
 use mathlib.Core.Option.{some}
 use lib.ListN.{get_elem?}
@@ -35,9 +36,9 @@ pub record PassHolds (n : ℕ) (line : List Entry) (p : Pass) : Type 0 where
 -- nobody has the desk, and it is at home
 pub record FreeHolds (room n : ℕ) (line : List Entry) (word : ℕ) (home : Home) : Type 0 where
   pub word_is : word ≡ 0
-  pub desk : Desk
+  pub desk : Box Desk
   pub home_is : home ≡ at_home (Kept desk)
-  pub rests : DeskRests room n line desk
+  pub rests : DeskRests room n line desk.value
 
 -- caller h has the desk, and it is out
 pub record HeldHolds (n : ℕ) (line : List Entry) (word : ℕ) (home : Home) (h : ℕ) (p : Pass) : Type 0 where

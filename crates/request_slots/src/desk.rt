@@ -21,6 +21,6 @@ pub enum Slot {
     Asked(Call),
     /// What became of it.
     Told(Outcome),
-    /// The desk, while nobody has it.
-    Kept(Desk),
+    /// The desk, while nobody has it. It lies apart, so that a slot is moved by few bytes.
+    Kept(Box<Desk>),
 }

@@ -38,12 +38,16 @@ impl Model for Slots {
 
 impl Slots {
     /// A table for so many callers, and their seats, numbered from 0 in order. All are idle and have seen nothing.
-    pub fn new(alloc: Global, callers: usize, desk: Desk) -> Result<(Slots, Vec<Seat>), OutOfMemory>
+    pub fn new(
+        alloc: Global,
+        callers: usize,
+        desk: Box<Desk>,
+    ) -> Result<(Slots, Vec<Seat>), OutOfMemory>
         requires count { (0 < callers) × (callers ≤ 64) }
-        requires empty { desk.book.history ≡ [] }
-        requires spare { IsSpare (callers + 1) desk }
+        requires empty { desk.value.book.history ≡ [] }
+        requires spare { IsSpare (callers + 1) desk.value }
         ensures size { IfOk result (λ t. t.0.slots ≡ callers + 1) }
-        ensures seats { IfOk result (λ t. t.1.items ≡ seats_of t.0 desk.book.room callers) }
+        ensures seats { IfOk result (λ t. t.1.items ≡ seats_of t.0 desk.value.book.room callers) }
         ensures each { IfOk result (λ t. All (IsNewAt t.0) t.1.items) }
     {
         let room = desk.book.room();
@@ -61,10 +65,10 @@ impl Slots {
     }
 
     /// The desk, unless the lock names another caller, which cannot be with one caller.
-    pub fn close(self, mut seat: Seat) -> Option<Desk>
+    pub fn close(self, mut seat: Seat) -> Option<Box<Desk>>
         requires place { seat.table_id ≡ self }
         requires no_desk { seat.known.pass ≡ None }
-        ensures line { IfSome result (λ d. ShowsLine self.slots seat.known d.book) }
+        ensures line { IfSome result (λ d. ShowsLine self.slots seat.known d.value.book) }
         ensures found { IfNone result ((h : ℕ) × (h ≢ seat.known.number) × (h + 1 < self.slots)) }
         ensures inside { seat.known.number + 1 < self.slots }
     {
@@ -96,7 +100,7 @@ impl Slots {
 }
 
 // The desk, and an empty slot for each caller.
-fn homes_of(alloc: Global, callers: usize, desk: Desk) -> Result<Vec<Slot>, OutOfMemory>
+fn homes_of(alloc: Global, callers: usize, desk: Box<Desk>) -> Result<Vec<Slot>, OutOfMemory>
     requires { callers ≤ 64 }
     ensures { IfOk result (λ v. v.items ≡ Kept desk ∷ replicate callers Nothing) }
 {

@@ -3,18 +3,13 @@ ghost use Rattle.call_history.specs.History.{Begins};
 ghost use Rattle.combiner.specs.Standing.{IsIdle, Rests};
 ghost use Rattle.combiner.specs.Says.{IsAnsweredTo};
 
-use crate::answers::Polled;
 use crate::caller::Caller;
 use crate::shared::Shared;
 use cvl_text::{Call, Reply};
 use std::alloc::Global;
 use std::sync::Wait;
 use std::thread::Threads;
-use std::{hint, thread};
 use vector_memory::OutOfMemory;
-
-/// How often a caller tries again before it hands the processor on.
-const TRIES: u32 = 100;
 
 impl Shared {
     /// Leaves a call, and serves and asks until it is answered: the place of its entry, counted from 0, and the reply. For want
@@ -41,26 +36,6 @@ impl Shared {
         let Ok(()) = self.post(caller, call) else {
             unreachable!()
         };
-        let mut tries = 0;
-        for _ in rt.forever() {
-            let _combined = self.combine(rt, alloc, caller);
-            match self.poll(caller) {
-                Polled::Answered { place, reply } => return Ok((place, reply)),
-                Polled::OutOfMemory(call) => return Err((call, OutOfMemory)),
-                Polled::Waiting => tries = waited(tries),
-                Polled::Idle => unreachable!(),
-            }
-        }
-        unreachable!()
+        self.wait(rt, alloc, caller)
     }
-}
-
-// One more try was made. After some the processor is handed on.
-fn waited(tries: u32) -> u32 {
-    if tries < TRIES {
-        hint::spin_loop();
-        return tries + 1;
-    }
-    thread::yield_now();
-    0
 }

@@ -8,13 +8,13 @@ use crate::slots::Slots;
 
 impl Slots {
     /// Takes the desk, in one try. It fails only where the lock names another caller, which is then among those met.
-    pub fn step_lock(&self, seat: &mut Seat) -> Option<Desk>
+    pub fn step_lock(&self, seat: &mut Seat) -> Option<Box<Desk>>
         requires place { seat.old.table_id ≡ self.now }
         requires no_desk { seat.old.known.pass ≡ None }
         ensures place { seat.new.table_id ≡ self.now }
-        ensures won { IfSome result (λ d. seat.new.known ≡ locking seat.old.known d.book.history) }
-        ensures line { IfSome result (λ d. ShowsLine self.now.slots seat.old.known d.book) }
-        ensures spare { IfSome result (IsSpare self.now.slots) }
+        ensures won { IfSome result (λ d. seat.new.known ≡ locking seat.old.known d.value.book.history) }
+        ensures line { IfSome result (λ d. ShowsLine self.now.slots seat.old.known d.value.book) }
+        ensures spare { IfSome result (λ d. IsSpare self.now.slots d.value) }
         ensures lost { IfNone result (Meets self.now.slots seat.old.known seat.new.known) }
         ensures inside { seat.old.known.number + 1 < self.now.slots }
     {

@@ -8,13 +8,13 @@ use crate::slots::Slots;
 
 impl Slots {
     /// The desk goes home. Then the caller has seen the history committed, and is settled if its own call was tried.
-    pub fn step_unlock(&self, seat: &mut Seat, desk: Desk)
+    pub fn step_unlock(&self, seat: &mut Seat, desk: Box<Desk>)
         requires place { seat.old.table_id ≡ self.now }
         requires desk { HasDesk seat.old.known }
         requires all_told { (pass_in seat.old.known).taken ≡ [] }
-        requires line { desk.book.history ≡ (pass_in seat.old.known).line }
-        requires room { desk.book.room ≡ seat.old.known.room }
-        requires spare { IsSpare self.now.slots desk }
+        requires line { desk.value.book.history ≡ (pass_in seat.old.known).line }
+        requires room { desk.value.book.room ≡ seat.old.known.room }
+        requires spare { IsSpare self.now.slots desk.value }
         ensures place { seat.new.table_id ≡ self.now }
         ensures known { seat.new.known ≡ unlocking seat.old.known (pass_in seat.old.known) }
         ensures rests { Rests seat.new.known }

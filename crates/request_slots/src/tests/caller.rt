@@ -21,7 +21,7 @@ pub(crate) fn table(alloc: Global, callers: usize, room: u64) -> Option<(Slots, 
         requests: Vec::with_capacity(alloc, callers).ok()?,
         outcomes: Vec::with_capacity(alloc, callers).ok()?,
     };
-    Slots::new(alloc, callers, desk).ok()
+    Slots::new(alloc, callers, Box::new(alloc, desk).ok()?).ok()
 }
 
 /// Posts a call, if the caller is idle.

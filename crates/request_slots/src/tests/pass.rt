@@ -4,7 +4,7 @@ ghost use Rattle.std.specs.Prelude.{◌≡◌, ℕ, ◌+◌, ◌<◌, ◌≤◌,
 ghost use Rattle.request_slots.specs.Passes.{fresh_pass};
 ghost use Rattle.request_slots.specs.WholePass.{IsRun, Taking, Telling};
 
-use crate::{Desk, Seat, Slots};
+use crate::{Seat, Slots};
 use call_history::{Book, Outcome, Request};
 use cvl_text::Call;
 use std::alloc::Global;
@@ -104,28 +104,19 @@ pub(crate) fn pass(
     ensures no_desk { seat.new.known.pass ≡ None }
     ensures phase { seat.new.known.phase ≡ seat.old.known.phase }
 {
-    let desk = slots.step_lock(seat)?;
-    let Desk {
-        mut book,
-        requests,
-        mut outcomes,
-    } = desk;
+    let mut desk = slots.step_lock(seat)?;
     let mut numbers = [0usize; 64];
+    let open = &mut *desk;
     let count = take_all(
         rt,
         alloc,
         slots,
         seat,
         callers,
-        &mut book,
-        &mut outcomes,
+        &mut open.book,
+        &mut open.outcomes,
         &mut numbers,
     );
-    let mut desk = Desk {
-        book,
-        requests,
-        outcomes,
-    };
     slots.step_commit(seat, &desk);
     answer_all(slots, seat, callers, &numbers, count, &mut desk.outcomes);
     slots.step_unlock(seat, desk);
