@@ -104,7 +104,7 @@ fn close_all(
         slots.step_meet(&mut last, &mut seat);
         all.push((seat.number(), told)).ok()?;
     }
-    let desk = slots.close(last)?;
+    let desk = Box::into_inner(slots.close(last)?);
     Some((desk.book, all))
 }
 
