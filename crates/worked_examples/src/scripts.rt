@@ -1,0 +1,42 @@
+//! Scripts `NAME.cvl`, each with the text that it is to be answered with beside it, `NAME.out`.
+
+use crate::runs::run;
+use std::alloc::{Alloc, Global};
+use std::rt::Files;
+use std::thread::Threads;
+use std::{fs, io};
+
+/// The names of the scripts in a folder, in the order of their bytes.
+pub fn names(rt: &HostRuntime, folder: &str) -> io::Result<Vec<String>> {
+    let mut names = Vec::new(rt.alloc());
+    for entry in fs::read_dir(rt, folder)? {
+        let entry = entry?;
+        let file = entry.file_name().to_string_lossy();
+        if let Some(name) = file.strip_suffix(".cvl") {
+            names.push(name.to_string(rt.alloc())?)?;
+        }
+    }
+    names.sort_unstable();
+    Ok(names)
+}
+
+/// The first line, counted from 1, where the program's answer to a script is not the text beside it.
+pub fn first_difference(
+    rt: &(impl Files + Alloc<A = Global> + Threads + Sync),
+    folder: &str,
+    name: &str,
+) -> io::Result<Option<usize>> {
+    let script = fs::read(rt, format!(in rt.alloc(); "{folder}/{name}.cvl")?)?;
+    let text = fs::read(rt, format!(in rt.alloc(); "{folder}/{name}.out")?)?;
+    let ran = run(rt, "serial", &script)?;
+    if ran.text == text && ran.status == 0 {
+        return Ok(None);
+    }
+    let same = ran
+        .text
+        .iter()
+        .zip(&text)
+        .take_while(|(left, right)| left == right);
+    let lines = same.filter(|(left, _)| **left == b'\n').count();
+    Ok(Some(lines + 1))
+}
