@@ -50,6 +50,8 @@ halt-is (stops.BadLine n) lists input left h = h
 halt-is stops.OutOfMemory lists input left h = tt
 halt-is stops.Read lists input left h = absurd h
 halt-is stops.Write lists input left h = absurd h
+halt-is (stops.Stopped worker) lists input left h = absurd h
+halt-is stops.Unfinished lists input left h = absurd h
 
 -- reading that stops in a block that was read, whatever comes behind it
 pub ReadSoFar-stop : (fault : RunFault) (input left rest : Option (List ℕ)) (lists more : List (List Call)) (i : ℕ) (partial got : List ℕ)
@@ -110,6 +112,8 @@ unread-lists (stops.BadLine n) lists input left h = h
 unread-lists stops.OutOfMemory lists input left h = tt
 unread-lists stops.Read lists input left h = h
 unread-lists stops.Write lists input left h = absurd h
+unread-lists (stops.Stopped worker) lists input left h = absurd h
+unread-lists stops.Unfinished lists input left h = absurd h
 
 pub some-weaker : (input : Option (List ℕ)) (P Q : List ℕ → Type 0) → ((script : List ℕ) → P script → Q script) → IfSome input P → IfSome input Q
 some-weaker None P Q f h = tt

@@ -43,10 +43,14 @@ module _ (m : State) (n : ℕ) (script line : List ℕ) (others : List (List ℕ
   line-stop faults.Bad stops.OutOfMemory waiting old new bad f = absurd f
   line-stop faults.Bad stops.Read waiting old new bad f = absurd f
   line-stop faults.Bad stops.Write waiting old new bad f = subst (λ (t : List ℕ). HasBegun old new (waiting ++ t)) (sym (text_of-bad (bad refl))) f
+  line-stop faults.Bad (stops.Stopped worker) waiting old new bad f = absurd f
+  line-stop faults.Bad stops.Unfinished waiting old new bad f = absurd f
   line-stop faults.OutOfMemory (stops.BadLine k) waiting old new bad f = absurd f
   line-stop faults.OutOfMemory stops.OutOfMemory waiting old new bad f = ([], none-yet m n script, subst (λ (t : List ℕ). Awaits old new [] t) (sym (append-nil waiting)) f)
   line-stop faults.OutOfMemory stops.Read waiting old new bad f = absurd f
   line-stop faults.OutOfMemory stops.Write waiting old new bad f = HasBegun-more old new waiting (text_of m n script) f
+  line-stop faults.OutOfMemory (stops.Stopped worker) waiting old new bad f = absurd f
+  line-stop faults.OutOfMemory stops.Unfinished waiting old new bad f = absurd f
 
   -- the first line is served, and its reply is not written
   pub write-stop : (waiting : List ℕ) (old new : Option (List ℕ)) → is_good (line_of line) ≡ true → HasBegun old new (waiting ++ line_text m (line_of line))
@@ -74,6 +78,8 @@ unserved-stop (stops.BadLine k) m n script waiting old new f = absurd f
 unserved-stop stops.OutOfMemory m n script waiting old new f = memory-stop m n script waiting old new f
 unserved-stop stops.Read m n script waiting old new f = absurd f
 unserved-stop stops.Write m n script waiting old new f = HasBegun-more old new waiting (text_of m n script) f
+unserved-stop (stops.Stopped worker) m n script waiting old new f = absurd f
+unserved-stop stops.Unfinished m n script waiting old new f = absurd f
 
 -- what stands behind the last line feed is not kept, whatever comes behind it
 pub keep-stop : (fault : LineFault) (result : RunFault) (m : State) (n : ℕ) (text more waiting : List ℕ) (old new : Option (List ℕ)) → IsOneLine text
@@ -95,6 +101,8 @@ stop-behind stops.OutOfMemory m k n i text made rest more waiting old mid new a 
 stop-behind stops.Read m k n i text made rest more waiting old mid new a w s = absurd s
 stop-behind stops.Write m k n i text made rest more waiting old mid new a w s =
     subst (λ (t : List ℕ). HasBegun old new t) (sym (Serves-text m k n i text made rest a more)) (HasBegun-then old mid new waiting made (text_of k i (rest ++ more)) w s)
+stop-behind (stops.Stopped worker) m k n i text made rest more waiting old mid new a w s = absurd s
+stop-behind stops.Unfinished m k n i text made rest more waiting old mid new a w s = absurd s
 
 -- a fault is handed out as it is
 pub handed-out : {T : Type 0} (result : Result T RunFault) (P : RunFault → Type 0) (fault given : RunFault) → result ≡ Err given → given ≡ fault → P fault → IfErr result P
@@ -112,3 +120,5 @@ counted-served (Err (stops.BadLine n)) reads reads' writes writes' Stops none s 
 counted-served (Err stops.OutOfMemory) reads reads' writes writes' Stops none s failed = tt
 counted-served (Err stops.Read) reads reads' writes writes' Stops none s failed = absurd (none s)
 counted-served (Err stops.Write) reads reads' writes writes' Stops none s failed = failed refl
+counted-served (Err (stops.Stopped worker)) reads reads' writes writes' Stops none s failed = tt
+counted-served (Err stops.Unfinished) reads reads' writes writes' Stops none s failed = tt

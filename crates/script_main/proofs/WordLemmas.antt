@@ -1,20 +1,21 @@
--- What the program's words ask for: one room at most.
-use Rattle.std.proofs.Common.{◌≡◌, ℕ, List, [], ◌∷◌, Option, None, Some, sym, ◌∙◌, arith}
-use Rattle.std.specs.Prelude.{codes, MatchOption}
-use Rattle.std.specs.Fmt.{decimal}
+-- What the program's words ask for: one mode and one room at most.
+use Rattle.std.proofs.Common.{◌≡◌, ℕ, List, [], ◌∷◌, refl, sym, ◌∙◌, arith}
 use Rattle.std.proofs.lemmas.Fmt.{decimal_injective}
-use Rattle.vector_memory.specs.States.{IsLawfulRoom}
-use Rattle.script_main.specs.Programs.{Asks, AsksNothing}
+use Rattle.script_main.specs.declared.mode.Mode.{Mode}
+use Rattle.script_main.specs.declared.mode.Mode.TheVariants.{Serial, Threads}
+use Rattle.script_main.specs.Programs.{mode_word, AsksRoom, Asks}
 
-pub Asks-same : (words : List (List ℕ)) (room other : ℕ) → Asks words room → Asks words other → room ≡ other
-Asks-same [] room other a b = absurd a
-Asks-same (mode ∷ []) room other a b = a.1 ∙ sym b.1
-Asks-same (mode ∷ word ∷ []) room other a b = decimal_injective room other (omega arith) (omega arith) (sym a.1 ∙ b.1)
-Asks-same (mode ∷ word ∷ also ∷ words) room other a b = absurd a
+pub mode-same : (mode other : Mode) → mode_word mode ≡ mode_word other → mode ≡ other
+mode-same Serial Serial e = refl
+mode-same Serial Threads e = absurd (cc e)
+mode-same Threads Serial e = absurd (cc e)
+mode-same Threads Threads e = refl
 
--- the second word decides where there are two
-pub Asks-in : (result : Option ℕ) (mode word : List ℕ) → mode ≡ codes "serial"
-    → MatchOption result ((room : ℕ) → IsLawfulRoom room → word ≡ decimal room → ⊥) (λ room. IsLawfulRoom room × (word ≡ decimal room))
-    → MatchOption result (AsksNothing (mode ∷ word ∷ [])) (Asks (mode ∷ word ∷ []))
-Asks-in None mode word is never = λ room asks. never room asks.2 asks.1
-Asks-in (Some room) mode word is found = (is, found.1, found.0)
+room-same : (words : List (List ℕ)) (room other : ℕ) → AsksRoom words room → AsksRoom words other → room ≡ other
+room-same [] room other a b = a ∙ sym b
+room-same (word ∷ []) room other a b = decimal_injective room other (omega arith) (omega arith) (sym a.0 ∙ b.0)
+room-same (word ∷ also ∷ words) room other a b = absurd a
+
+pub Asks-same : (words : List (List ℕ)) (mode other : Mode) (room room' : ℕ) → Asks mode words room → Asks other words room' → (mode ≡ other) × (room ≡ room')
+Asks-same [] mode other room room' a b = absurd a
+Asks-same (word ∷ words) mode other room room' a b = (mode-same mode other (sym a.0 ∙ b.0), room-same words room room' a.1 b.1)

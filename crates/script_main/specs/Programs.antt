@@ -1,22 +1,34 @@
 -- What the program does with the words behind its name.
 use Rattle.std.specs.Prelude.{◌≡◌, ◌++◌, ◌<◌, ◌⊎◌, ℕ, List, [], ◌∷◌, Option, Result, Ok, Err, IfSome, codes}
 use Rattle.std.specs.Fmt.{decimal}
-use Rattle.vector_memory.specs.States.{State, room_limit, IsLawfulRoom}
+use Rattle.vector_memory.specs.States.{empty, room_limit, IsLawfulRoom}
 use Rattle.script_main.specs.declared.fault.RunFault.{RunFault}
 use Rattle.script_main.specs.declared.fault.RunFault.TheVariants as stops
+use Rattle.script_main.specs.declared.mode.Mode.{Mode}
+use Rattle.script_main.specs.declared.mode.Mode.TheVariants.{Serial, Threads}
 use Rattle.script_main.specs.Runs.{Runs, IsCounted}
+use Rattle.script_main.specs.SharedRuns.{RunsShared}
 use Rattle.script_main.specs.Streams.{Awaits, HasBegun}
 
--- The words ask for a serial run in this room: a decimal number without needless zeros, the greatest room if it is absent.
-abbrev pub Asks : List (List ℕ) → ℕ → Type 0
-Asks [] room = ⊥
-Asks (mode ∷ []) room = (mode ≡ codes "serial") × (room ≡ room_limit)
-Asks (mode ∷ word ∷ []) room = (mode ≡ codes "serial") × (word ≡ decimal room) × IsLawfulRoom room
-Asks (mode ∷ word ∷ also ∷ words) room = ⊥
+-- the word that asks for a mode
+abbrev pub mode_word : Mode → List ℕ
+mode_word Serial = codes "serial"
+mode_word Threads = codes "threads"
+
+-- The words behind the mode ask for this room: a decimal number without needless zeros, the greatest room if it is absent.
+abbrev pub AsksRoom : List (List ℕ) → ℕ → Type 0
+AsksRoom [] room = room ≡ room_limit
+AsksRoom (word ∷ []) room = (word ≡ decimal room) × IsLawfulRoom room
+AsksRoom (word ∷ also ∷ words) room = ⊥
+
+-- the words ask for a run of this mode in this room
+abbrev pub Asks : Mode → List (List ℕ) → ℕ → Type 0
+Asks mode [] room = ⊥
+Asks mode (word ∷ words) room = (word ≡ mode_word mode) × AsksRoom words room
 
 -- they ask for nothing that the program does
 abbrev pub AsksNothing : List (List ℕ) → Type 0
-AsksNothing words = (room : ℕ) → Asks words room → ⊥
+AsksNothing words = (mode : Mode) (room : ℕ) → Asks mode words room → ⊥
 
 -- what is written for them
 abbrev pub usage_text : List ℕ
@@ -29,12 +41,19 @@ status_of (Err (stops.BadLine number)) = 2
 status_of (Err stops.OutOfMemory) = 3
 status_of (Err stops.Read) = 4
 status_of (Err stops.Write) = 4
+status_of (Err (stops.Stopped worker)) = 5
+status_of (Err stops.Unfinished) = 5
 
--- The program ran a script from memory m: its status is that of a run over the input.
-pub record HasRun (status : ℕ) (m : State) (input left old new : Option (List ℕ)) (reads reads' writes writes' : ℕ) : Type 0 where
+-- what a run of this mode over an input comes to, from the empty memory of a room
+abbrev pub RunsAs : Mode → Result (Unit {0}) RunFault → ℕ → List ℕ → Option (List ℕ) → Option (List ℕ) → Option (List ℕ) → Type 0
+RunsAs Serial result room input left old new = Runs result (empty room) input left old new
+RunsAs Threads result room input left old new = RunsShared result room input left old new
+
+-- The program ran a script: its status is that of a run over the input.
+pub record HasRun (mode : Mode) (status room : ℕ) (input left old new : Option (List ℕ)) (reads reads' writes writes' : ℕ) : Type 0 where
   pub result : Result (Unit {0}) RunFault
   pub status_is : status ≡ status_of result
-  pub runs : IfSome input (λ script. Runs result m script left old new)
+  pub runs : IfSome input (λ script. RunsAs mode result room script left old new)
   pub counted : IsCounted result reads reads' writes writes'
 
 -- The program wrote the usage line: status 2, or 4 where a write failed.

@@ -66,6 +66,8 @@ IsHalt (stops.BadLine number) n script = bad_line_of n script ≡ Some number
 IsHalt stops.OutOfMemory n script = Unit {0}
 IsHalt stops.Read n script = ⊥
 IsHalt stops.Write n script = ⊥
+IsHalt (stops.Stopped worker) n script = ⊥
+IsHalt stops.Unfinished n script = ⊥
 
 -- What reading an input into lists comes to, with what the reader has left: on Ok no line is bad, and the lists are the calls
 -- of all lines.
@@ -75,6 +77,8 @@ IsReadInto (Err (stops.BadLine number)) lists input left = bad_line_of 0 input �
 IsReadInto (Err stops.OutOfMemory) lists input left = Unit {0}
 IsReadInto (Err stops.Read) lists input left = IsCutShort input left
 IsReadInto (Err stops.Write) lists input left = ⊥
+IsReadInto (Err (stops.Stopped worker)) lists input left = ⊥
+IsReadInto (Err stops.Unfinished) lists input left = ⊥
 
 -- What reading a script comes to.
 abbrev pub IsRead : Result (Vec (Vec Call Global) Global) RunFault → List ℕ → Option (List ℕ) → Type 0

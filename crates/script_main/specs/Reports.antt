@@ -65,6 +65,8 @@ IsReportFault (stops.BadLine number) writes writes' = ⊥
 IsReportFault stops.OutOfMemory writes writes' = Unit {0}
 IsReportFault stops.Read writes writes' = ⊥
 IsReportFault stops.Write writes writes' = writes < writes'
+IsReportFault (stops.Stopped worker) writes writes' = ⊥
+IsReportFault stops.Unfinished writes writes' = ⊥
 
 -- A text was put behind what waits to be written: then some of both is written, and the rest waits. Where that stopped, a
 -- beginning of both is written.

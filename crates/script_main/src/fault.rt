@@ -12,4 +12,10 @@ pub enum RunFault {
     Read,
     #[error("a write failed")]
     Write,
+    /// The gate stopped the worker of this number, the lowest if it stopped several.
+    #[error("worker {0} was stopped")]
+    Stopped(u64),
+    /// The machine that the workers shared was not closed with the calls of all of them.
+    #[error("the machine was not closed")]
+    Unfinished,
 }

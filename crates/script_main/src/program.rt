@@ -1,14 +1,19 @@
 //! The program, but for its streams and its arguments.
 
-ghost use Rattle.std.specs.Prelude.{◌≡◌, ℕ, map, string_bytes, MatchOption};
+ghost use Rattle.std.specs.Prelude.{◌≡◌, ℕ, map, string_bytes, IfSome, MatchOption};
 ghost use Rattle.std.specs.Fmt.{decimal};
-ghost use Rattle.vector_memory.specs.States.{IsLawfulRoom, empty};
-ghost use Rattle.script_main.specs.Programs.{Asks, AsksNothing, HasRun, IsUsage, status_of};
+ghost use Rattle.vector_memory.specs.States.{IsLawfulRoom};
+ghost use Rattle.script_main.specs.declared.mode.Mode.{Mode};
+ghost use Rattle.script_main.specs.Runs.{IsCounted};
+ghost use Rattle.script_main.specs.Programs.{mode_word, AsksRoom, Asks, AsksNothing, RunsAs, HasRun, IsUsage, status_of};
 
 use crate::fault::RunFault;
+use crate::mode::Mode;
 use crate::serial::run_serial_at_exit;
+use crate::shared::run_shared;
 use crate::streams::{Sink, Source, write_all};
 use std::alloc::Global;
+use std::sync::Wait;
 use std::thread::Threads;
 use vector_memory::{ROOM_LIMIT, is_lawful_room};
 
@@ -34,24 +39,48 @@ fn room_of(word: &str) -> Option<u64>
     }
 }
 
-/// The room in which the words ask for a serial run.
-fn asked_room(words: &[String]) -> Option<u64>
-    ensures { MatchOption result (AsksNothing (map string_bytes words.now))
-        (Asks (map string_bytes words.now)) }
+/// The mode that a word asks for.
+fn mode_of(word: &str) -> Option<Mode>
+    ensures { MatchOption result ((mode : Mode) → word.now ≡ mode_word mode → ⊥) (λ mode. word.now ≡ mode_word mode) }
 {
-    let Some((mode, rest)) = words.split_first() else {
-        return None;
-    };
-    if mode.as_str() != "serial" {
-        return None;
+    if word == "serial" {
+        return Some(Mode::Serial);
     }
-    let Some((room, more)) = rest.split_first() else {
+    if word == "threads" {
+        return Some(Mode::Threads);
+    }
+    None
+}
+
+/// The room that the words behind the mode ask for.
+fn asked_room(words: &[String]) -> Option<u64>
+    ensures { MatchOption result ((room : ℕ) → AsksRoom (map string_bytes words.now) room → ⊥)
+        (AsksRoom (map string_bytes words.now)) }
+{
+    let Some((room, more)) = words.split_first() else {
         return Some(ROOM_LIMIT);
     };
     if !more.is_empty() {
         return None;
     }
     room_of(room.as_str())
+}
+
+/// The mode and the room that the words ask for.
+fn asked(words: &[String]) -> Option<(Mode, u64)>
+    ensures { MatchOption result (AsksNothing (map string_bytes words.now))
+        (λ asked. Asks asked.0 (map string_bytes words.now) asked.1) }
+{
+    let Some((mode, rest)) = words.split_first() else {
+        return None;
+    };
+    let Some(mode) = mode_of(mode.as_str()) else {
+        return None;
+    };
+    let Some(room) = asked_room(rest) else {
+        return None;
+    };
+    Some((mode, room))
 }
 
 /// The exit status of a run.
@@ -64,15 +93,41 @@ fn status_of(ran: &Result<(), RunFault>) -> u8
         Err(RunFault::OutOfMemory) => 3,
         Err(RunFault::Read) => 4,
         Err(RunFault::Write) => 4,
+        Err(RunFault::Stopped(_)) => 5,
+        Err(RunFault::Unfinished) => 5,
+    }
+}
+
+/// Runs a script in this mode.
+fn run_as<R: Source, W: Sink>(
+    rt: &(impl Threads + Wait + Sync),
+    alloc: Global,
+    mode: Mode,
+    room: u64,
+    reader: &mut R,
+    writer: &mut W,
+) -> Result<(), RunFault>
+    requires room { IsLawfulRoom room }
+    requires readable { R.can_read reader.old }
+    requires writable { W.can_write writer.old }
+    ensures runs { IfSome (R.rest reader.old) (λ input. RunsAs mode result room input
+        (R.rest reader.new) (W.written writer.old) (W.written writer.new)) }
+    ensures counted { IsCounted result (R.failures reader.old) (R.failures reader.new)
+        (W.failures writer.old) (W.failures writer.new) }
+{
+    match mode {
+        Mode::Serial => run_serial_at_exit(rt, alloc, room, reader, writer),
+        Mode::Threads => run_shared(rt, alloc, room, reader, writer),
     }
 }
 
 /// Runs the program: `words` are its arguments, behind its name. The answer is the exit status.
 ///
 /// The arguments are judged before any input is read. 0: all was run and written; 2: a bad line, or bad arguments, for
-/// which the usage line is written; 3: want of memory; 4: a read or a write failed.
+/// which the usage line is written; 3: want of memory; 4: a read or a write failed; 5: worker threads were not run to their
+/// end.
 pub fn run_program<R: Source, W: Sink>(
-    rt: &(impl Threads + Sync),
+    rt: &(impl Threads + Wait + Sync),
     alloc: Global,
     words: &[String],
     reader: &mut R,
@@ -80,19 +135,19 @@ pub fn run_program<R: Source, W: Sink>(
 ) -> u8
     requires readable { R.can_read reader.old }
     requires writable { W.can_write writer.old }
-    ensures run { (room : ℕ) → Asks (map string_bytes words.now) room → HasRun result (empty room)
+    ensures run { (mode : Mode) (room : ℕ) → Asks mode (map string_bytes words.now) room → HasRun mode result room
         (R.rest reader.old) (R.rest reader.new) (W.written writer.old) (W.written writer.new)
         (R.failures reader.old) (R.failures reader.new) (W.failures writer.old) (W.failures writer.new) }
     ensures usage { AsksNothing (map string_bytes words.now) → IsUsage result
         (W.written writer.old) (W.written writer.new) (W.failures writer.old) (W.failures writer.new) }
     ensures unread { AsksNothing (map string_bytes words.now) → R.rest reader.new ≡ R.rest reader.old }
 {
-    let Some(room) = asked_room(words) else {
+    let Some((mode, room)) = asked(words) else {
         return match write_all(writer, USAGE) {
             Ok(()) => 2,
             Err(_) => 4,
         };
     };
-    let ran = run_serial_at_exit(rt, alloc, room, reader, writer);
+    let ran = run_as(rt, alloc, mode, room, reader, writer);
     status_of(&ran)
 }

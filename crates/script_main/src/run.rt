@@ -29,7 +29,7 @@ pub(crate) struct Run {
 }
 
 /// Writes the words on a bad line.
-fn write_bad_line<W: Sink>(writer: &mut W, number: u64) -> Result<(), Failed>
+pub(crate) fn write_bad_line<W: Sink>(writer: &mut W, number: u64) -> Result<(), Failed>
     requires { W.can_write writer.old }
     ensures written { OnOk result (Awaits (W.written writer.old) (W.written writer.new) [] (bad_text number)) }
     ensures begun { OnErr result (HasBegun (W.written writer.old) (W.written writer.new) (bad_text number)) }

@@ -1,6 +1,7 @@
 //! A script as the calls of its callers.
 
-ghost use Rattle.std.specs.Prelude.{[], ◌≡◌, ◌<◌, Err, IfSome, length};
+ghost use Rattle.std.specs.Prelude.{[], ◌≡◌, ◌<◌, ◌≤◌, Err, OnOk, IfOk, IfSome, length, vec_len};
+ghost use Rattle.call_history.specs.Callers.{caller_limit};
 ghost use Rattle.script_main.specs.Readings.{lists_of, IsRead, IsReadInto};
 
 use crate::fault::RunFault;
@@ -23,6 +24,7 @@ fn read_input<R: Source>(
     requires readable { R.can_read reader.old }
     ensures read { IfSome (R.rest reader.old) (λ input. IsReadInto result (lists_of reading.new.calls) input
         (R.rest reader.new)) }
+    ensures few { OnOk result (vec_len reading.new.calls ≤ caller_limit) }
     ensures failed { result ≡ Err RunFault.Read → R.failures reader.old < R.failures reader.new }
     ensures unwritten { result ≡ Err RunFault.Write → ⊥ }
 {
@@ -41,6 +43,7 @@ fn read_input<R: Source>(
 pub fn read_script<R: Source>(alloc: Global, reader: &mut R) -> Result<Vec<Vec<Call>>, RunFault>
     requires { R.can_read reader.old }
     ensures read { IfSome (R.rest reader.old) (λ input. IsRead result input (R.rest reader.new)) }
+    ensures few { IfOk result (λ calls. vec_len calls ≤ caller_limit) }
     ensures failed { result ≡ Err RunFault.Read → R.failures reader.old < R.failures reader.new }
     ensures unwritten { result ≡ Err RunFault.Write → ⊥ }
 {

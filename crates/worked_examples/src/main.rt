@@ -10,6 +10,7 @@ mod scripts;
 
 use std::alloc::{Alloc, Global};
 use std::rt::Files;
+use std::sync::Wait;
 use std::thread::Threads;
 use std::{env, io};
 
@@ -28,7 +29,7 @@ fn folder(rt: &HostRuntime) -> io::Result<String> {
 
 /// Prints of each script whether it is answered by the text beside it.
 fn print_scripts(
-    rt: &(impl Files + Alloc<A = Global> + Print + Threads + Sync),
+    rt: &(impl Files + Alloc<A = Global> + Print + Threads + Wait + Sync),
     folder: &str,
     names: &[String],
 ) -> io::Result<()> {
@@ -43,7 +44,7 @@ fn print_scripts(
 
 /// Prints the numbers of the rows that are not answered as they say, and how many rows there are.
 fn print_rows(
-    rt: &(impl Files + Alloc<A = Global> + Print + Threads + Sync),
+    rt: &(impl Files + Alloc<A = Global> + Print + Threads + Wait + Sync),
     folder: &str,
 ) -> io::Result<()> {
     let checked = rows::check(rt, folder, TABLE)?;

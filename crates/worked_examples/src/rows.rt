@@ -4,6 +4,7 @@
 use crate::runs::run;
 use std::alloc::{Alloc, Global};
 use std::rt::Files;
+use std::sync::Wait;
 use std::thread::Threads;
 use std::{fs, io};
 
@@ -16,7 +17,7 @@ pub struct Checked {
 
 /// Runs the rows of a table.
 pub fn check(
-    rt: &(impl Files + Alloc<A = Global> + Threads + Sync),
+    rt: &(impl Files + Alloc<A = Global> + Threads + Wait + Sync),
     folder: &str,
     table: &str,
 ) -> io::Result<Checked> {
@@ -33,7 +34,7 @@ pub fn check(
 }
 
 /// Whether a row is answered as it says.
-fn holds(rt: &(impl Alloc<A = Global> + Threads + Sync), row: &str) -> io::Result<bool> {
+fn holds(rt: &(impl Alloc<A = Global> + Threads + Wait + Sync), row: &str) -> io::Result<bool> {
     let cells: Vec<&str> = row.split('\t').collect(rt.alloc())?;
     let [arguments, script, text, status] = cells.as_slice() else {
         return Ok(false);

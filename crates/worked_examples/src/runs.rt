@@ -2,6 +2,7 @@
 
 use script_main::{ReadSource, WriteSink, run_program};
 use std::alloc::{Alloc, AllocError, Global};
+use std::sync::Wait;
 use std::thread::Threads;
 
 /// What the program wrote, and its exit status.
@@ -13,7 +14,7 @@ pub struct Ran {
 
 /// Runs the program with these arguments, which spaces part, on a script.
 pub fn run(
-    rt: &(impl Alloc<A = Global> + Threads + Sync),
+    rt: &(impl Alloc<A = Global> + Threads + Wait + Sync),
     arguments: &str,
     script: &[u8],
 ) -> Result<Ran, AllocError> {

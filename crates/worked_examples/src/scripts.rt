@@ -3,6 +3,7 @@
 use crate::runs::run;
 use std::alloc::{Alloc, Global};
 use std::rt::Files;
+use std::sync::Wait;
 use std::thread::Threads;
 use std::{fs, io};
 
@@ -22,7 +23,7 @@ pub fn names(rt: &HostRuntime, folder: &str) -> io::Result<Vec<String>> {
 
 /// The first line, counted from 1, where the program's answer to a script is not the text beside it.
 pub fn first_difference(
-    rt: &(impl Files + Alloc<A = Global> + Threads + Sync),
+    rt: &(impl Files + Alloc<A = Global> + Threads + Wait + Sync),
     folder: &str,
     name: &str,
 ) -> io::Result<Option<usize>> {

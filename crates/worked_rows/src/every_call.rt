@@ -2,6 +2,7 @@
 
 use crate::program::ends_with;
 use std::alloc::{Alloc, Global};
+use std::sync::Wait;
 use std::test::Fail;
 use std::thread::Threads;
 
@@ -42,7 +43,7 @@ const OPERAND_LINES: usize = 17;
 
 /// Whether this call on the operands puts this value into `d`.
 pub fn gives(
-    rt: &(impl Alloc<A = Global> + Threads + Sync),
+    rt: &(impl Alloc<A = Global> + Threads + Wait + Sync),
     call: &str,
     value: &str,
 ) -> Result<bool, Fail> {
@@ -53,7 +54,7 @@ pub fn gives(
 
 /// Whether this call on the operands has this reply and leaves `d` as it was.
 pub fn replies(
-    rt: &(impl Alloc<A = Global> + Threads + Sync),
+    rt: &(impl Alloc<A = Global> + Threads + Wait + Sync),
     call: &str,
     reply: &str,
 ) -> Result<bool, Fail> {
@@ -62,7 +63,7 @@ pub fn replies(
 
 /// Whether this call on the operands has this reply in a memory of this room and leaves `d` as it was.
 pub fn replies_within(
-    rt: &(impl Alloc<A = Global> + Threads + Sync),
+    rt: &(impl Alloc<A = Global> + Threads + Wait + Sync),
     room: &str,
     call: &str,
     reply: &str,

@@ -1,5 +1,5 @@
 //! Tests of the program as a whole: the worked rows of the profile, every call with each of its faults, lines at the edges
-//! of the grammar, and readers and writers that fail at each place. They stand above the libraries, so that those are
+//! of the grammar, readers and writers that fail at each place, and worker threads with gates that hold or stop them. They stand above the libraries, so that those are
 //! proved once.
 #![tactic(auto)]
 
@@ -7,6 +7,8 @@
 mod every_call;
 #[cfg(test)]
 mod failures;
+#[cfg(test)]
+mod gates;
 #[cfg(test)]
 mod limits;
 #[cfg(test)]
@@ -19,5 +21,7 @@ mod rows;
 mod settled;
 #[cfg(test)]
 mod streams;
+#[cfg(test)]
+mod threads;
 #[cfg(test)]
 mod vectors;

@@ -3,6 +3,7 @@
 use crate::streams::{Full, Pieces, Short};
 use script_main::{ReadSource, RunFault, WriteSink, run_program, run_serial};
 use std::alloc::{Alloc, Global};
+use std::sync::Wait;
 use std::test::Fail;
 use std::thread::Threads;
 
@@ -15,7 +16,7 @@ pub struct Ran {
 
 /// Runs the program with these arguments on a reader, with a writer that takes a number of bytes.
 pub fn run_on(
-    rt: &(impl Alloc<A = Global> + Threads + Sync),
+    rt: &(impl Alloc<A = Global> + Threads + Wait + Sync),
     arguments: &[&str],
     reader: Pieces<'_>,
     mut writer: Short,
@@ -45,7 +46,7 @@ pub fn writer(rt: &impl Alloc<A = Global>, step: usize, left: usize, full: Full)
 
 /// Runs the program on a script, with nothing that fails.
 pub fn run(
-    rt: &(impl Alloc<A = Global> + Threads + Sync),
+    rt: &(impl Alloc<A = Global> + Threads + Wait + Sync),
     arguments: &[&str],
     script: &[u8],
     step: usize,
@@ -65,7 +66,7 @@ pub fn run(
 
 /// Whether the program answers a script with this text and this status, however the script is cut by reads.
 pub fn answers(
-    rt: &(impl Alloc<A = Global> + Threads + Sync),
+    rt: &(impl Alloc<A = Global> + Threads + Wait + Sync),
     arguments: &[&str],
     script: &[u8],
     text: &[u8],
@@ -81,7 +82,7 @@ pub fn answers(
 
 /// Whether the program answers so many first lines of a script with `ok`, and the others with this text.
 pub fn ends_with(
-    rt: &(impl Alloc<A = Global> + Threads + Sync),
+    rt: &(impl Alloc<A = Global> + Threads + Wait + Sync),
     arguments: &[&str],
     script: &str,
     oks: usize,
@@ -101,10 +102,12 @@ const USAGE: &[u8] = b"usage: cvl serial|threads [room]\n";
 #[test]
 fn usage_for_other_arguments(rt: HostRuntime) -> Result<(), Fail> {
     let script = b"0: a = z 1\n";
-    let wrong: [&[&str]; 14] = [
+    let wrong: [&[&str]; 16] = [
         &[],
-        &["threads"],
-        &["threads", "4"],
+        &["Threads"],
+        &["serial", "threads"],
+        &["threads", "0"],
+        &["threads", "4", "4"],
         &["Serial"],
         &["serial "],
         &[""],

@@ -2,6 +2,7 @@
 
 use crate::program::ends_with;
 use std::alloc::{Alloc, Global};
+use std::sync::Wait;
 use std::test::Fail;
 use std::thread::Threads;
 
@@ -103,7 +104,7 @@ static VECTORS: [(&str, &str); 29] = [
 
 /// Whether each line of a script but the last is answered `ok`, and the last with this text.
 fn shows(
-    rt: &(impl Alloc<A = Global> + Threads + Sync),
+    rt: &(impl Alloc<A = Global> + Threads + Wait + Sync),
     script: &str,
     text: &str,
 ) -> Result<bool, Fail> {

@@ -3,6 +3,7 @@
 use super::{OPERAND_LINES, OPERANDS};
 use crate::program::ends_with;
 use std::alloc::{Alloc, Global};
+use std::sync::Wait;
 use std::test::Fail;
 use std::thread::Threads;
 
@@ -42,7 +43,7 @@ static WRITTEN: [(&str, &str, &str, &str); 30] = [
 
 /// Whether this call has this reply, and the name then has this value.
 fn writes(
-    rt: &(impl Alloc<A = Global> + Threads + Sync),
+    rt: &(impl Alloc<A = Global> + Threads + Wait + Sync),
     call: &str,
     reply: &str,
     name: &str,

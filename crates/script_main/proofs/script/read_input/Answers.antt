@@ -1,12 +1,13 @@
 use Rattle.std.proofs.Common.{◌≡◌, ◌<◌, ◌++◌, [], List, ℕ, Result, Err, IfSome, length, vec_len, take, sym, ap, ◌∙◌, subst, refl, arith}
 use Rattle.std.specs.Io.KnownBytes.{Consumes}
-use Rattle.std.proofs.lemmas.List.{length-take}
-use Rattle.std.proofs.lemmas.Result.{err_from_is_err_and}
+use Rattle.std.proofs.lemmas.List.{length-take, length-map}
+use Rattle.std.proofs.lemmas.Result.{err_from_is_err_and, on_ok_weaker}
 use Rattle.cvl_text.specs.declared.call.Call.{Call}
 use Rattle.script_main.specs.declared.fault.RunFault.{RunFault}
 use Rattle.script_main.specs.declared.fault.RunFault.TheVariants as stops
-use Rattle.script_main.specs.Scripts.{IsOneLine}
+use Rattle.script_main.specs.Scripts.{IsOneLine, lines_of}
 use Rattle.script_main.specs.Readings.{lists_of, IsReadInto}
+use Rattle.script_main.proofs.CountLemmas.{lists_few}
 use Rattle.script_main.proofs.HaltLemmas.{halt-no_read, halt-no_write}
 use Rattle.script_main.proofs.ReadProgress.{ReadSoFar, ReadSoFar-start, ReadSoFar-read, ReadSoFar-stop, ReadSoFar-cut, ReadSoFar-last}
 use Rattle.script_main.proofs.script.read_input.Goals as goal
@@ -25,6 +26,7 @@ loop-reading-init g c =
       number = omega (arith, made.number, bound);
       one_line = subst (λ (t : List ℕ). IsOneLine t) (sym made.partial) refl;
       short = omega arith;
+      few = omega (arith, ap length made.calls, length-map reading.calls.items (λ own. own.items), reading.calls.ok.0);
       progress = rw (made.number, made.partial) (subst (λ (ls : List (List Call)). ReadSoFar input input ls 0 []) (sym made.calls) (ReadSoFar-start input));
     }
 
@@ -47,6 +49,7 @@ loop-reading-preserved g c =
       number = omega (arith, said.number, kept.number, read.bound.1, length-take count c.read.new.buffer);
       one_line = said.one_line;
       short = said.short;
+      few = lists_few reading.calls next.calls said.read.0 said.read.2 kept.few;
       progress = ReadSoFar-read (g.R.Source.rest c.args.reader.now) left rest (lists_of reading.calls) reading.number reading.partial.items got said.read.0 (lists_of next.calls) next.number next.partial.items
           kept.progress consumed said.read.1 said.read.2;
     }
@@ -106,3 +109,8 @@ returns-in-Err-clause-read g c =
     let kept = c.loop-reading.invariant in
     ReadSoFar-cut (g.R.Source.rest c.args.reader.now) (g.R.Source.rest c.loop-reading.reader) (g.R.Source.rest c.read.new.self) (lists_of reading.calls) reading.number reading.partial.items
     kept.progress kept.one_line c.in-Err.ensures.bytes
+
+pub returns-in-Ok-eq0-clause-few : goal.returns-in-Ok-eq0-clause-few
+returns-in-Ok-eq0-clause-few g c =
+    let reading = c.loop-reading.reading in
+    on_ok_weaker c.read_last.result (λ adds. lists_few reading.calls c.read_last.new.self.calls (lines_of reading.partial.items) adds c.loop-reading.invariant.few) c.read_last.ensures.adds

@@ -1,4 +1,5 @@
 use Rattle.std.proofs.Common.{◌≡◌, ◌≤◌, ◌<◌, ◌+◌, ◌^◌, length, vec_len}
+use Rattle.call_history.specs.Callers.{caller_limit}
 use Rattle.script_main.specs.Scripts.{IsOneLine, line_limit}
 use Rattle.script_main.specs.Readings.{lists_of}
 use Rattle.script_main.proofs.ReadProgress.{ReadSoFar}
@@ -12,6 +13,7 @@ invariant-loop-reading g l = record {
   number : (l.reading.number + vec_len l.reading.partial) + g.R.Source.limit l.reader < 2 ^ 63;
   one_line : IsOneLine l.reading.partial.items;
   short : vec_len l.reading.partial ≤ line_limit;
+  few : vec_len l.reading.calls ≤ caller_limit;
   progress : ReadSoFar (g.R.Source.rest l.fn.reader) (g.R.Source.rest l.reader) (lists_of l.reading.calls) l.reading.number l.reading.partial.items;
 }
 

@@ -1,0 +1,43 @@
+-- Lists of workers. `zip_more` and `zip_then` are of lists whose members go together place by place, `jobs_more` of the list of
+-- jobs; `ended` says how a worker ends whose thread was started and joined.
+use Rattle.std.proofs.Common.{◌≡◌, ℕ, suc, List, [], ◌∷◌, ◌++◌, sym, ap, ◌∙◌, subst, arith, append_assoc, Result}
+use Rattle.std.specs.Prelude.{All}
+use Rattle.std.specs.List.{AllZip}
+use Rattle.std.proofs.lemmas.Slice.Zip.{all_zipped_more}
+use Rattle.cvl_text.specs.declared.call.Call.{Call}
+use Rattle.request_slots.specs.Seating.{Machine}
+use Rattle.script_main.specs.declared.fault.RunFault.{RunFault}
+use Rattle.script_main.specs.declared.work.Worked.{Worked}
+use Rattle.script_main.specs.declared.threads.Job.{Job}
+use Rattle.script_main.specs.declared.threads.Started.{Started}
+use Rattle.script_main.specs.declared.threads.Started.TheVariants.{Runs, Refused}
+use Rattle.script_main.specs.Workers.{IsEnd, IsEndOf, IsStarted, IsJoined}
+
+pub zip_more : {A B : Type 0} (R : A → B → Type 0) (whole rest others : List A) (x : A) (ys : List B) (y : B) → rest ≡ x ∷ others → (done : List A) × (whole ≡ done ++ rest) × AllZip R done ys → R x y
+    → (done : List A) × (whole ≡ done ++ others) × AllZip R done (ys ++ y ∷ [])
+zip_more R whole rest others x ys y next had related =
+    (had.0 ++ x ∷ [], had.1 ∙ (ap (λ l. had.0 ++ l) next ∙ sym (append_assoc had.0 (x ∷ []) others)), all_zipped_more R had.0 ys x y had.2 related)
+
+pub all_rest : {A : Type 0} (P : A → Type 0) (rest others : List A) (x : A) → rest ≡ x ∷ others → All P rest → All P others
+all_rest P rest others x next all = λ k d lt. let both : All P (x ∷ others) = subst (All P) next all in both (suc k) d (omega arith)
+
+pub all_first : {A : Type 0} (P : A → Type 0) (rest others : List A) (x : A) → rest ≡ x ∷ others → All P rest → P x
+all_first P rest others x next all = let both : All P (x ∷ others) = subst (All P) next all in both 0 x (omega arith)
+
+zip_then : {A B C : Type 0} (R : A → B → Type 0) (S : B → C → Type 0) (T : A → C → Type 0) (xs : List A) (ys : List B) (zs : List C) → ((x : A) (y : B) (z : C) → R x y → S y z → T x z)
+    → AllZip R xs ys → AllZip S ys zs → AllZip T xs zs
+zip_then R S T [] [] [] then r s = tt
+zip_then R S T [] [] (z ∷ zs) then r s = absurd s
+zip_then R S T [] (y ∷ ys) zs then r s = absurd r
+zip_then R S T (x ∷ xs) [] zs then r s = absurd r
+zip_then R S T (x ∷ xs) (y ∷ ys) [] then r s = absurd s
+zip_then R S T (x ∷ xs) (y ∷ ys) (z ∷ zs) then r s = (then x y z r.0 s.0, zip_then R S T xs ys zs then r.1 s.1)
+
+ended : (m : Machine) (room : ℕ) (job : Job) (started : Started) (end : Result Worked RunFault) → IsStarted m room job started → IsJoined started end → IsEndOf m room job end
+ended m room job (Runs handle) end is joined =
+    subst (λ (z : Machine × ℕ × ℕ × (List Call)). IsEnd z.0 z.1 z.2 z.3 end) (λ i. (is.0 i, is.1 i, is.2 i, is.3 i)) joined
+ended m room job Refused end is joined = subst (IsEndOf m room job) (sym joined) tt
+
+pub all_ended : (m : Machine) (room : ℕ) (jobs : List Job) (started : List Started) (ends : List (Result Worked RunFault)) → AllZip (IsStarted m room) jobs started → AllZip IsJoined started ends
+    → AllZip (IsEndOf m room) jobs ends
+all_ended m room jobs started ends s j = zip_then (IsStarted m room) IsJoined (IsEndOf m room) jobs started ends (λ job worker end. ended m room job worker end) s j

@@ -1,0 +1,109 @@
+-- Worker threads that share one machine: what each of them comes to, and how their callers meet.
+use Rattle.std.specs.Prelude.{◌≡◌, ℕ, ◌+◌, ◌≤◌, List, [], ◌∷◌, ◌++◌, length, map, Result, Ok, Err, Vec}
+use Rattle.std.specs.Global.{Global}
+use Rattle.std.specs.List.{AllZip, sum_by}
+use Rattle.vector_memory.specs.States.{empty}
+use Rattle.cvl_text.specs.declared.call.Call.{Call}
+use Rattle.cvl_text.specs.declared.reply.Reply.{Reply}
+use Rattle.cvl_text.specs.Answers.{Answer, answer_of}
+use Rattle.call_history.specs.declared.entry.Entry.{Entry}
+use Rattle.call_history.specs.History.{Begins}
+use Rattle.call_history.specs.Callers.{calls_by}
+use Rattle.call_history.specs.Books.{BookState}
+use Rattle.request_slots.specs.Seating.{Machine}
+use Rattle.combiner.specs.Standing.{Standing, IsIdle, callers_of}
+use Rattle.combiner.specs.Says.{seeing}
+use Rattle.script_main.specs.declared.fault.RunFault.{RunFault}
+use Rattle.script_main.specs.declared.fault.RunFault.TheVariants as stops
+use Rattle.script_main.specs.declared.work.Worked.{Worked}
+use Rattle.script_main.specs.declared.threads.Job.{Job}
+use Rattle.script_main.specs.declared.threads.Started.{Started}
+use Rattle.script_main.specs.declared.threads.Started.TheVariants.{Runs, Refused}
+use Rattle.script_main.specs.Settles.{replies_by}
+
+-- The caller of this number is idle. Its answered calls are these, they are all its calls in what it has seen, and these are
+-- the replies to them there.
+pub record HasDone (m : Machine) (room k : ℕ) (calls : List Call) (c : Standing) (answers : List Answer) : Type 0 where
+  pub machine_is : c.machine ≡ m
+  pub room_is : c.room ≡ room
+  pub number_is : c.number ≡ k
+  pub idle : IsIdle c
+  pub record_is : c.own ≡ calls
+  pub calls_are : calls_by k c.seen ≡ calls
+  pub replies_are : answers ≡ replies_by k (empty room) c.seen
+
+-- whatever the caller had done, it has done this call behind that, with this reply
+abbrev pub GoesOn : Standing → Call → Standing → Reply → Type 0
+GoesOn c call d reply = (calls : List Call) (answers : List Answer) → HasDone c.machine c.room c.number calls c answers
+    → HasDone c.machine c.room c.number (calls ++ call ∷ []) d (answers ++ answer_of reply ∷ [])
+
+-- why worker k ends before its script does: its gate stopped it, or memory was wanted
+abbrev pub IsWorkFault : ℕ → RunFault → Type 0
+IsWorkFault k (stops.Stopped worker) = worker ≡ k
+IsWorkFault k stops.OutOfMemory = Unit {0}
+IsWorkFault k (stops.BadLine number) = ⊥
+IsWorkFault k stops.Read = ⊥
+IsWorkFault k stops.Write = ⊥
+IsWorkFault k stops.Unfinished = ⊥
+
+-- how worker k ends
+abbrev pub IsEnd : Machine → ℕ → ℕ → List Call → Result Worked RunFault → Type 0
+IsEnd m room k script (Ok worked) = HasDone m room k script worked.caller (map answer_of worked.replies.items)
+IsEnd m room k script (Err fault) = IsWorkFault k fault
+
+-- how the worker that is to do this ends
+abbrev pub IsEndOf : Machine → ℕ → Job → Result Worked RunFault → Type 0
+IsEndOf m room job end = IsEnd m room job.caller.number job.script.items end
+
+-- the thread of a worker, if it could be made, does what the worker is to do
+abbrev pub IsStarted : Machine → ℕ → Job → Started → Type 0
+IsStarted m room job (Runs handle) =
+    (handle.promise.machine.value ≡ m) × (handle.promise.room ≡ room) × (handle.promise.number ≡ job.caller.number)
+    × (handle.promise.script.value.items ≡ job.script.items)
+IsStarted m room job Refused = Unit {0}
+
+-- how a thread ended; one that could not be made is a want of memory
+abbrev pub IsJoined : Started → Result Worked RunFault → Type 0
+IsJoined (Runs handle) end = IsEnd handle.promise.machine.value handle.promise.room handle.promise.number handle.promise.script.value.items end
+IsJoined Refused end = end ≡ Err stops.OutOfMemory
+
+-- The lists are of one length, and the fact holds of the members at each place. Places are counted from k on.
+abbrev pub EachAt : {A B : Type 0} → (ℕ → A → B → Type 0) → ℕ → List A → List B → Type 0
+EachAt fact k [] [] = Unit {0}
+EachAt fact k [] (y ∷ ys) = ⊥
+EachAt fact k (x ∷ xs) [] = ⊥
+EachAt fact k (x ∷ xs) (y ∷ ys) = fact k x y × EachAt fact (k + 1) xs ys
+
+-- how the workers with these scripts end
+abbrev pub AreEnds : Machine → ℕ → List (List Call) → List (Result Worked RunFault) → Type 0
+AreEnds m room scripts ends = EachAt (IsEnd m room) 0 scripts ends
+
+-- this is the fault of the lowest worker that has one
+pub record IsFirstFault (fault : RunFault) (ends : List (Result Worked RunFault)) : Type 0 where
+  pub before : List Worked
+  pub behind : List (Result Worked RunFault)
+  pub ends_are : ends ≡ map Ok before ++ Err fault ∷ behind
+
+-- the replies are those of the worker, who has seen a beginning of this history
+abbrev pub HasMet : List Entry → Worked → Vec Reply Global → Type 0
+HasMet line worked replies = (replies ≡ worked.replies) × Begins worked.caller.seen line
+
+-- These workers have met: the first of them has seen all that any of them has, and these are the replies to each.
+pub record HaveMet (workers : List Worked) (closer : Standing) (replies : List (Vec Reply Global)) : Type 0 where
+  pub first : Worked
+  pub others : List Worked
+  pub workers_are : workers ≡ first ∷ others
+  pub closer_is : closer ≡ seeing first.caller closer.seen
+  pub each : AllZip (HasMet closer.seen) workers replies
+
+-- how many replies there are
+abbrev pub reply_count : List (Vec Reply Global) → ℕ
+reply_count replies = sum_by (λ own. length own.items) replies
+
+-- This book was closed by this caller: its history begins with what the caller has seen, it has nobody else's calls, and it
+-- is as long as there are replies.
+pub record IsClosed (m : Machine) (closer : Standing) (replies : List (Vec Reply Global)) (book : BookState) : Type 0 where
+  pub room_is : book.room ≡ closer.room
+  pub begins : Begins closer.seen book.history
+  pub no_strangers : (k : ℕ) → callers_of m ≤ k → calls_by k book.history ≡ []
+  pub counted : reply_count replies ≡ length book.history

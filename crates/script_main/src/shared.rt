@@ -1,0 +1,70 @@
+//! A script whose callers run in threads of their own.
+
+ghost use Rattle.std.specs.Prelude.{◌≡◌, ◌<◌, ◌≤◌, Err, OnOk, IfOk, IfSome, vec_len};
+ghost use Rattle.vector_memory.specs.States.{IsLawfulRoom};
+ghost use Rattle.call_history.specs.Callers.{caller_limit};
+ghost use Rattle.script_main.specs.Runs.{IsCounted};
+ghost use Rattle.script_main.specs.SharedRuns.{IsReadWhole, RunsShared};
+
+use crate::fault::RunFault;
+use crate::gate::Open;
+use crate::report::write_report;
+use crate::run::write_bad_line;
+use crate::script::read_script;
+use crate::streams::{Sink, Source};
+use crate::threads::run_threads;
+use cvl_text::Call;
+use std::alloc::Global;
+use std::sync::Wait;
+use std::thread::Threads;
+
+/// Reads a script. At a bad line the words on it are written.
+fn read_whole<R: Source, W: Sink>(
+    alloc: Global,
+    reader: &mut R,
+    writer: &mut W,
+) -> Result<Vec<Vec<Call>>, RunFault>
+    requires readable { R.can_read reader.old }
+    requires writable { W.can_write writer.old }
+    ensures read { IfSome (R.rest reader.old) (λ input. IsReadWhole result input
+        (R.rest reader.new) (W.written writer.old) (W.written writer.new)) }
+    ensures few { IfOk result (λ calls. vec_len calls ≤ caller_limit) }
+    ensures ready { OnOk result (W.can_write writer.new) }
+    ensures counted { OnOk result (W.failures writer.new ≡ W.failures writer.old) }
+    ensures cut { result ≡ Err RunFault.Read → R.failures reader.old < R.failures reader.new }
+    ensures failed { result ≡ Err RunFault.Write → W.failures writer.old < W.failures writer.new }
+{
+    match read_script(alloc, reader) {
+        Ok(calls) => Ok(calls),
+        Err(RunFault::BadLine(number)) => match write_bad_line(writer, number) {
+            Ok(()) => Err(RunFault::BadLine(number)),
+            Err(_) => Err(RunFault::Write),
+        },
+        Err(fault) => Err(fault),
+    }
+}
+
+/// Reads a script, runs it with a thread for each of its callers on a machine whose memory has this room, and writes the
+/// report.
+///
+/// It ends at the first bad line, of which nothing is run, for want of memory, where a read or a write fails, and where the
+/// workers are not run to their end; `RunsShared` says what is written then.
+pub(crate) fn run_shared<R: Source, W: Sink>(
+    rt: &(impl Threads + Wait + Sync),
+    alloc: Global,
+    room: u64,
+    reader: &mut R,
+    writer: &mut W,
+) -> Result<(), RunFault>
+    requires room { IsLawfulRoom room }
+    requires readable { R.can_read reader.old }
+    requires writable { W.can_write writer.old }
+    ensures runs { IfSome (R.rest reader.old) (λ input. RunsShared result room input
+        (R.rest reader.new) (W.written writer.old) (W.written writer.new)) }
+    ensures counted { IsCounted result (R.failures reader.old) (R.failures reader.new)
+        (W.failures writer.old) (W.failures writer.new) }
+{
+    let scripts = read_whole(alloc, reader, writer)?;
+    let settled = run_threads(rt, alloc, scripts, room, &Open)?;
+    write_report(rt, alloc, &settled, writer)
+}

@@ -1,0 +1,220 @@
+//! Worker threads with gates that hold them or stop them.
+
+use crate::streams::Pieces;
+use cvl_text::Call;
+use script_main::{Gate, ReadSource, RunFault, read_script, run_threads};
+use std::alloc::{Alloc, Global};
+use std::process::Abort;
+use std::sync::Wait;
+use std::sync::atomic::{AtomicU64, Ordering};
+use std::test::Fail;
+use std::thread;
+use std::thread::Threads;
+
+/// How often a gate looks before it gives up.
+const TURNS: u64 = 1_000_000;
+
+/// Waits until the word is set, and hands the processor on in the meantime. False where that takes too long.
+fn waits_for(word: &AtomicU64) -> bool {
+    for _ in 0..TURNS {
+        if word.load(Ordering::SeqCst) > 0 {
+            return true;
+        }
+        thread::yield_now();
+    }
+    false
+}
+
+/// The calls of a script.
+fn scripts_of(alloc: Global, bytes: &[u8]) -> Result<Vec<Vec<Call>>, RunFault> {
+    let mut source = ReadSource::new(Pieces {
+        bytes,
+        step: 1000,
+        fails: None,
+    });
+    read_script(alloc, &mut source)
+}
+
+/// How many replies each worker had, and the length of the history.
+#[derive(Drop)]
+struct Came {
+    replies: Vec<usize>,
+    history: usize,
+}
+
+/// Runs a script through a gate.
+fn run_through<G: Gate + Sync>(
+    rt: &(impl Alloc<A = Global> + Threads + Wait + Abort + Sync),
+    script: &[u8],
+    gate: &G,
+) -> Result<Result<Came, RunFault>, Fail> {
+    let scripts = scripts_of(rt.alloc(), script)?;
+    assert!(rt; scripts.len() <= 64);
+    let settled = match run_threads(rt, rt.alloc(), scripts, 100, gate) {
+        Ok(settled) => settled,
+        Err(fault) => return Ok(Err(fault)),
+    };
+    assert!(rt; settled.book.audit(rt, rt.alloc())?);
+    let mut replies = Vec::new(rt.alloc());
+    for own in &settled.replies {
+        replies.push(own.len())?;
+    }
+    let history = settled.book.len();
+    Ok(Ok(Came { replies, history }))
+}
+
+/// Three workers: the first has no call, the others one each.
+const ONE_EACH: &[u8] = b"1: a = z 1\n2: b = z 2\n";
+
+/// Whether the run settled with both calls.
+fn has_both(came: Result<Came, RunFault>) -> bool {
+    match came {
+        Ok(came) => came.history == 2 && came.replies.as_slice() == [0, 1, 1].as_slice(),
+        Err(_) => false,
+    }
+}
+
+/// Holds worker 1 before its call until worker 2 has been answered.
+#[derive(Drop)]
+struct Follows {
+    answered: AtomicU64,
+}
+
+impl Gate for Follows {
+    fn before(&self, worker: u64, turn: u64) -> bool {
+        if worker == 2 && turn == 1 {
+            self.answered.fetch_add(1, Ordering::SeqCst);
+        }
+        worker != 1 || turn != 0 || waits_for(&self.answered)
+    }
+}
+
+#[test]
+fn two_under_way(rt: HostRuntime) -> Result<(), Fail> {
+    let gate = Follows {
+        answered: AtomicU64::new(0),
+    };
+    assert!(rt; has_both(run_through(&rt, ONE_EACH, &gate)?));
+    Ok(())
+}
+
+/// Holds workers 1 and 2 before their calls until both have been asked.
+#[derive(Drop)]
+struct Meets {
+    first: AtomicU64,
+    second: AtomicU64,
+}
+
+impl Gate for Meets {
+    fn before(&self, worker: u64, turn: u64) -> bool {
+        if turn > 0 || worker == 0 {
+            return true;
+        }
+        if worker == 1 {
+            self.first.fetch_add(1, Ordering::SeqCst);
+            return waits_for(&self.second);
+        }
+        self.second.fetch_add(1, Ordering::SeqCst);
+        waits_for(&self.first)
+    }
+}
+
+#[test]
+fn both_posted(rt: HostRuntime) -> Result<(), Fail> {
+    let gate = Meets {
+        first: AtomicU64::new(0),
+        second: AtomicU64::new(0),
+    };
+    assert!(rt; has_both(run_through(&rt, ONE_EACH, &gate)?));
+    Ok(())
+}
+
+/// Stops some of two workers at one turn.
+#[derive(Clone, Copy)]
+struct Stops {
+    first: bool,
+    second: bool,
+    turn: u64,
+}
+
+impl Gate for Stops {
+    fn before(&self, worker: u64, turn: u64) -> bool {
+        turn != self.turn || !(worker == 0 && self.first || worker == 1 && self.second)
+    }
+}
+
+#[test]
+fn the_lowest_worker_that_is_stopped(rt: HostRuntime) -> Result<(), Fail> {
+    let script = b"0: a = z 1\n1: b = z 2\n";
+    let cases = [(true, false, 0), (false, true, 1), (true, true, 0)];
+    for (first, second, lowest) in cases {
+        let gate = Stops {
+            first,
+            second,
+            turn: 0,
+        };
+        let came = run_through(&rt, script, &gate)?;
+        assert!(rt; came.err() == Some(RunFault::Stopped(lowest)));
+    }
+    Ok(())
+}
+
+/// What a gate says behind the last call changes nothing.
+#[test]
+fn the_last_answer_is_ignored(rt: HostRuntime) -> Result<(), Fail> {
+    let gate = Stops {
+        first: true,
+        second: true,
+        turn: 1,
+    };
+    let came = run_through(&rt, b"0: a = z 1\n1: b = z 2\n", &gate)?;
+    assert!(rt; came.ok().map_or(0, |came| came.history) == 2);
+    Ok(())
+}
+
+/// Adds up the turns that it is asked for, each with 1 more.
+#[derive(Drop)]
+struct Counts {
+    asked: AtomicU64,
+    turns: AtomicU64,
+}
+
+impl Gate for Counts {
+    fn before(&self, _worker: u64, turn: u64) -> bool {
+        self.asked.fetch_add(1, Ordering::SeqCst);
+        self.turns.fetch_add(turn, Ordering::SeqCst);
+        true
+    }
+}
+
+/// Workers of 2, 0 and 3 calls are asked 3, 1 and 4 times: for turns 0 to 2, 0, and 0 to 3.
+#[test]
+fn one_more_turn_than_calls(rt: HostRuntime) -> Result<(), Fail> {
+    let gate = Counts {
+        asked: AtomicU64::new(0),
+        turns: AtomicU64::new(0),
+    };
+    let script = b"0: a = z 1\n2: b = z 2\n0: get a\n2: get b\n2: fre_fov b\n";
+    let came = run_through(&rt, script, &gate)?;
+    assert!(rt; came.ok().map_or(0, |came| came.history) == 5);
+    assert!(rt; gate.asked.load(Ordering::SeqCst) == 8);
+    assert!(rt; gate.turns.load(Ordering::SeqCst) == 9);
+    Ok(())
+}
+
+/// For no scripts there is no worker, and no gate is asked.
+#[test]
+fn no_worker_without_scripts(rt: HostRuntime) -> Result<(), Fail> {
+    let gate = Counts {
+        asked: AtomicU64::new(0),
+        turns: AtomicU64::new(0),
+    };
+    let came = run_through(&rt, b"# nothing\n", &gate)?;
+    assert!(rt;
+        came.ok()
+            .map_or(1, |came| came.history + came.replies.len())
+            == 0
+    );
+    assert!(rt; gate.asked.load(Ordering::SeqCst) == 0);
+    Ok(())
+}
