@@ -187,7 +187,14 @@ fn work_all<R: Threads + Wait + Sync, G: Gate + Sync>(
     )
 }
 
-/// Runs scripts, each in a worker thread of its own, on one machine whose memory has this room.
+/// Runs scripts, each in a worker thread of its own, on one machine whose memory has this room. Worker and caller have one
+/// number.
+///
+/// A worker leaves each of its calls, asks the gate, and then serves and asks until the call is answered. Behind the last it
+/// asks the gate once more. All workers have ended before this returns. A worker that the gate stops ends with `Stopped`,
+/// and one that memory is refused, or a thread, with `OutOfMemory`; of several the fault of the lowest is answered. The run
+/// is `Unfinished` where the machine cannot be closed, or has entries that no worker was told of; with one script that
+/// never is.
 pub fn run_threads<R: Threads + Wait + Sync, G: Gate + Sync>(
     rt: &R,
     alloc: Global,

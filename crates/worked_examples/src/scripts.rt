@@ -1,4 +1,5 @@
-//! Scripts `NAME.cvl`, each with the text that it is to be answered with beside it, `NAME.out`.
+//! Scripts `NAME.cvl`, each with the text that it is to be answered with beside it, `NAME.out`. Those whose names end with
+//! `.threads` are run in that mode.
 
 use crate::runs::run;
 use std::alloc::{Alloc, Global};
@@ -21,6 +22,15 @@ pub fn names(rt: &HostRuntime, folder: &str) -> io::Result<Vec<String>> {
     Ok(names)
 }
 
+/// The mode that a script is for.
+fn mode_of(name: &str) -> &str {
+    if name.ends_with(".threads") {
+        "threads"
+    } else {
+        "serial"
+    }
+}
+
 /// The first line, counted from 1, where the program's answer to a script is not the text beside it.
 pub fn first_difference(
     rt: &(impl Files + Alloc<A = Global> + Threads + Wait + Sync),
@@ -29,7 +39,7 @@ pub fn first_difference(
 ) -> io::Result<Option<usize>> {
     let script = fs::read(rt, format!(in rt.alloc(); "{folder}/{name}.cvl")?)?;
     let text = fs::read(rt, format!(in rt.alloc(); "{folder}/{name}.out")?)?;
-    let ran = run(rt, "serial", &script)?;
+    let ran = run(rt, mode_of(name), &script)?;
     if ran.text == text && ran.status == 0 {
         return Ok(None);
     }

@@ -210,11 +210,7 @@ fn no_worker_without_scripts(rt: HostRuntime) -> Result<(), Fail> {
         turns: AtomicU64::new(0),
     };
     let came = run_through(&rt, b"# nothing\n", &gate)?;
-    assert!(rt;
-        came.ok()
-            .map_or(1, |came| came.history + came.replies.len())
-            == 0
-    );
+    assert!(rt; matches!(&came, Ok(came) if came.history == 0 && came.replies.is_empty()));
     assert!(rt; gate.asked.load(Ordering::SeqCst) == 0);
     Ok(())
 }

@@ -42,7 +42,7 @@ fn replies(
 }
 
 #[test]
-fn two_callers_of_a_hundred_calls(rt: HostRuntime) -> Result<(), Fail> {
+fn adds_on_two_threads(rt: HostRuntime) -> Result<(), Fail> {
     let mut script = Vec::new(rt.alloc());
     adds_often(&rt, &mut script, 0, "1 2")?;
     adds_often(&rt, &mut script, 1, "3 4")?;
@@ -57,7 +57,7 @@ fn two_callers_of_a_hundred_calls(rt: HostRuntime) -> Result<(), Fail> {
 }
 
 #[test]
-fn runs_a_script_without_calls(rt: HostRuntime) -> Result<(), Fail> {
+fn reports_an_empty_script(rt: HostRuntime) -> Result<(), Fail> {
     let text = b"history 0\naudit ok\n";
     assert!(rt; answers(&rt, &["threads"], b"", text, 0)?);
     assert!(rt; answers(&rt, &["threads", "1"], b"\n# nothing\n", text, 0)?);
