@@ -9,10 +9,12 @@ ghost use Rattle.script_main.specs.Programs.{mode_word, AsksRoom, Asks, AsksNoth
 
 use crate::fault::RunFault;
 use crate::mode::Mode;
-use crate::serial::run_serial_at_exit;
+use crate::run::Run;
+use crate::serial::run_script;
 use crate::shared::run_shared;
 use crate::streams::{Sink, Source, write_all};
 use std::alloc::Global;
+use std::mem;
 use std::sync::Wait;
 use std::thread::Threads;
 use vector_memory::{ROOM_LIMIT, is_lawful_room};
@@ -116,7 +118,15 @@ fn run_as<R: Source, W: Sink>(
         (W.failures writer.old) (W.failures writer.new) }
 {
     match mode {
-        Mode::Serial => run_serial_at_exit(rt, alloc, room, reader, writer),
+        Mode::Serial => {
+            let Ok(mut run) = Run::new(alloc, room) else {
+                return Err(RunFault::OutOfMemory);
+            };
+            let ran = run_script(rt, alloc, &mut run, reader, writer);
+            // The program ends: the system takes the book back at once, and not entry by entry.
+            mem::forget(run);
+            ran
+        }
         Mode::Threads => run_shared(rt, alloc, room, reader, writer),
     }
 }
@@ -126,6 +136,8 @@ fn run_as<R: Source, W: Sink>(
 /// The arguments are judged before any input is read. 0: all was run and written; 2: a bad line, or bad arguments, for
 /// which the usage line is written; 3: want of memory; 4: a read or a write failed; 5: worker threads were not run to their
 /// end.
+///
+/// It is a program's last act: what the book of a serial run holds is left to the system, and not given back.
 pub fn run_program<R: Source, W: Sink>(
     rt: &(impl Threads + Wait + Sync),
     alloc: Global,
