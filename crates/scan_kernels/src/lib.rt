@@ -29,7 +29,7 @@ pub use convert::{number, truth};
 pub use distribute::{distribute_b, distribute_z};
 pub use indices::index;
 pub use map::{map1_b, map1_z, map2_b, map2_z};
-pub use meter::Meter;
+pub use meter::{DEFAULT_CHUNK, Meter};
 pub use operation::{B1, B2, Cmp, Z1, Z2};
 pub use reduce::{reduce_b, reduce_z};
 pub use scan::{scan_b, scan_z};

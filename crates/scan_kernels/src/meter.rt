@@ -1,40 +1,62 @@
-ghost use Rattle.std.specs.Prelude.{◌≡◌};
+ghost use Rattle.std.specs.Prelude.{◌≡◌, ◌≤◌};
 ghost use Rattle.scan_kernels.specs.Metering.{raised};
 
 use std::marker::Model;
 
-/// Counts the kernel runs.
+/// How many items a chunk has where a meter is made without a number of its own.
+pub const DEFAULT_CHUNK: usize = 4_096;
+
+/// Counts the kernel runs, and says how many items a chunk has where a kernel goes by chunks. The kernels run in the
+/// calling thread, item after item, and do not heed the chunk yet.
 #[derive(Drop)]
 pub struct Meter {
     runs: u64,
+    chunk: usize,
 }
 
 impl Model for Meter {
-    ghost use Rattle.std.specs.Prelude.{ℕ, ◌<◌, ◌^◌};
+    ghost use Rattle.std.specs.Prelude.{◌<◌, ◌≤◌, ◌^◌};
+    ghost use Rattle.scan_kernels.specs.Metering.{Metered};
 
-    ghost Value = { ℕ };
+    ghost Value = { Metered };
 
-    ghost view = { λ m. m.runs };
+    ghost view = { λ m. record { runs = m.runs; chunk = m.chunk } };
 
-    ghost invariant = { λ m. m.runs < 2 ^ 64 };
+    ghost invariant = { λ m. (m.runs < 2 ^ 64) × (1 ≤ m.chunk) };
 }
 
 impl Meter {
-    /// A meter that has counted no run.
+    /// A meter that has counted no run, with chunks of `DEFAULT_CHUNK` items.
     pub fn new() -> Meter
-        ensures { result ≡ 0 }
+        ensures { result ≡ record { runs = 0; chunk = DEFAULT_CHUNK } }
     {
-        Meter { runs: 0 }
+        Meter::with_chunk(DEFAULT_CHUNK)
+    }
+
+    /// A meter that has counted no run, with chunks of so many items, at least one.
+    pub fn with_chunk(chunk: usize) -> Meter
+        requires { 1 ≤ chunk }
+        ensures { result ≡ record { runs = 0; chunk = chunk } }
+    {
+        Meter { runs: 0, chunk }
     }
 
     /// How many runs were counted.
     pub fn runs(&self) -> u64
-        ensures { result ≡ self.now }
+        ensures { result ≡ self.now.runs }
     {
         self.runs
     }
 
-    /// Counts one more run. The greatest number stays.
+    /// How many items a chunk has.
+    pub fn chunk(&self) -> usize
+        ensures chunk { result ≡ self.now.chunk }
+        ensures some { 1 ≤ result }
+    {
+        self.chunk
+    }
+
+    /// Counts one more run. The greatest number stays, and so does the chunk.
     pub fn raise(&mut self)
         ensures { self.new ≡ raised self.old }
     {
