@@ -1,7 +1,7 @@
 //! Items read from the places that an index holds, segment by segment. Want of memory leaves the meter as it was.
 
-ghost use Rattle.std.specs.Prelude.{◌≡◌, ◌+◌, ◌≤◌, ◌++◌, length, sum, vec_len, vec_capacity, All, IfOk, OnOk, OnErr};
-ghost use Rattle.scan_kernels.specs.Metering.{raised};
+ghost use Rattle.std.specs.Prelude.{◌≡◌, ◌+◌, ◌≤◌, ◌++◌, length, sum, vec_len, vec_capacity, All, IfOk};
+ghost use Rattle.scan_kernels.specs.Metering.{CountsRun};
 ghost use Rattle.permute_kernels.specs.Indices.{IsPlaceOf, LieWithin};
 ghost use Rattle.permute_kernels.specs.Gathered.{gathered, segmented_gather};
 
@@ -28,8 +28,7 @@ pub fn back_permute_z(
     requires counts { length source.now ≡ length by.now }
     requires within { LieWithin source.now by.now index.now }
     ensures gather { IfOk result (λ v. v.items ≡ segmented_gather source.now items.now by.now index.now) }
-    ensures counted { OnOk result (meter.new ≡ raised meter.old) }
-    ensures err { OnErr result (meter.new ≡ meter.old) }
+    ensures counted { CountsRun result meter.old meter.new }
 {
     let made = gather_each(alloc, items, source.lengths(), index, by.lengths())?;
     meter.raise();
@@ -51,8 +50,7 @@ pub fn back_permute_b(
     requires counts { length source.now ≡ length by.now }
     requires within { LieWithin source.now by.now index.now }
     ensures gather { IfOk result (λ v. v.items ≡ segmented_gather source.now flags.now by.now index.now) }
-    ensures counted { OnOk result (meter.new ≡ raised meter.old) }
-    ensures err { OnErr result (meter.new ≡ meter.old) }
+    ensures counted { CountsRun result meter.old meter.new }
 {
     let made = gather_each(alloc, flags, source.lengths(), index, by.lengths())?;
     meter.raise();

@@ -1,7 +1,7 @@
 //! Items kept by a flag, and how many each segment keeps. Want of memory leaves the meter as it was.
 
-ghost use Rattle.std.specs.Prelude.{◌≡◌, ◌<◌, ◌≤◌, ◌^◌, ◌+◌, length, take, sum, IfOk, OnOk, OnErr};
-ghost use Rattle.scan_kernels.specs.Metering.{raised};
+ghost use Rattle.std.specs.Prelude.{◌≡◌, ◌<◌, ◌≤◌, ◌^◌, ◌+◌, length, take, sum, IfOk};
+ghost use Rattle.scan_kernels.specs.Metering.{CountsRun};
 ghost use Rattle.permute_kernels.specs.Packed.{number_set, numbers_set, packed};
 
 use scan_kernels::Meter;
@@ -23,8 +23,7 @@ pub fn pack_z(
 ) -> Result<Vec<i64>, OutOfMemory>
     requires { length flags.now ≡ length items.now }
     ensures pack { IfOk result (λ v. v.items ≡ packed flags.now items.now) }
-    ensures counted { OnOk result (meter.new ≡ raised meter.old) }
-    ensures err { OnErr result (meter.new ≡ meter.old) }
+    ensures counted { CountsRun result meter.old meter.new }
 {
     let made = kept(alloc, items, flags, &mut [0; BLOCK])?;
     meter.raise();
@@ -41,8 +40,7 @@ pub fn pack_b(
 ) -> Result<Vec<bool>, OutOfMemory>
     requires { length flags.now ≡ length truths.now }
     ensures pack { IfOk result (λ v. v.items ≡ packed flags.now truths.now) }
-    ensures counted { OnOk result (meter.new ≡ raised meter.old) }
-    ensures err { OnErr result (meter.new ≡ meter.old) }
+    ensures counted { CountsRun result meter.old meter.new }
 {
     let made = kept(alloc, truths, flags, &mut [false; BLOCK])?;
     meter.raise();
@@ -59,8 +57,7 @@ pub fn packed_lengths(
 ) -> Result<Vec<i64>, OutOfMemory>
     requires { sum segments.now ≡ length flags.now }
     ensures lengths { IfOk result (λ v. v.items ≡ numbers_set segments.now flags.now) }
-    ensures counted { OnOk result (meter.new ≡ raised meter.old) }
-    ensures err { OnErr result (meter.new ≡ meter.old) }
+    ensures counted { CountsRun result meter.old meter.new }
 {
     let made = count_each(alloc, flags, segments.lengths())?;
     meter.raise();

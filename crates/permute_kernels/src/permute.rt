@@ -1,7 +1,7 @@
 //! Items moved to the places that an index holds, segment by segment. Want of memory leaves the meter as it was.
 
-ghost use Rattle.std.specs.Prelude.{◌≡◌, length, sum, IfOk, OnOk, OnErr};
-ghost use Rattle.scan_kernels.specs.Metering.{raised};
+ghost use Rattle.std.specs.Prelude.{◌≡◌, length, sum, IfOk};
+ghost use Rattle.scan_kernels.specs.Metering.{CountsRun};
 ghost use Rattle.permute_kernels.specs.Indices.{HoldsEachPlaceOnce, PermuteSegments};
 ghost use Rattle.permute_kernels.specs.Permuted.{IsPermuted, IsPermutedBySegments, segmented_permute};
 
@@ -27,8 +27,7 @@ pub fn permute_z(
     requires permutation { PermuteSegments segments.now index.now }
     ensures permute { IfOk result (λ v. v.items ≡ segmented_permute segments.now index.now items.now) }
     ensures places { IfOk result (λ v. IsPermutedBySegments segments.now index.now items.now v.items) }
-    ensures counted { OnOk result (meter.new ≡ raised meter.old) }
-    ensures err { OnErr result (meter.new ≡ meter.old) }
+    ensures counted { CountsRun result meter.old meter.new }
 {
     let made = permuted(alloc, items, index, segments.lengths())?;
     meter.raise();
@@ -49,8 +48,7 @@ pub fn permute_b(
     requires permutation { PermuteSegments segments.now index.now }
     ensures permute { IfOk result (λ v. v.items ≡ segmented_permute segments.now index.now flags.now) }
     ensures places { IfOk result (λ v. IsPermutedBySegments segments.now index.now flags.now v.items) }
-    ensures counted { OnOk result (meter.new ≡ raised meter.old) }
-    ensures err { OnErr result (meter.new ≡ meter.old) }
+    ensures counted { CountsRun result meter.old meter.new }
 {
     let made = permuted(alloc, flags, index, segments.lengths())?;
     meter.raise();

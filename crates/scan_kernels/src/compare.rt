@@ -1,9 +1,9 @@
 //! A comparison item by item. Want of memory leaves the meter as it was.
 
-ghost use Rattle.std.specs.Prelude.{◌≡◌, length, IfOk, OnOk, OnErr};
+ghost use Rattle.std.specs.Prelude.{◌≡◌, length, IfOk};
 ghost use Rattle.scan_kernels.specs.IntegerOps.{compares};
 ghost use Rattle.scan_kernels.specs.Elementwise.{item_by_item};
-ghost use Rattle.scan_kernels.specs.Metering.{raised};
+ghost use Rattle.scan_kernels.specs.Metering.{CountsRun};
 
 use crate::meter::Meter;
 use crate::operation::Cmp;
@@ -23,8 +23,7 @@ pub fn compare2(
 ) -> Result<Vec<bool>, OutOfMemory>
     requires { length a.now ≡ length b.now }
     ensures map { IfOk result (λ v. v.items ≡ item_by_item (compares op) a.now b.now) }
-    ensures counted { OnOk result (meter.new ≡ raised meter.old) }
-    ensures err { OnErr result (meter.new ≡ meter.old) }
+    ensures counted { CountsRun result meter.old meter.new }
 {
     let made = match op {
         Cmp::Eql => compared(alloc, Cmp::Eql, a, b)?,

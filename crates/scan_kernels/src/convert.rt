@@ -1,8 +1,8 @@
 //! Integers as truth values, and truth values as integers. Want of memory leaves the meter as it was.
 
-ghost use Rattle.std.specs.Prelude.{◌≡◌, map, IfOk, OnOk, OnErr};
+ghost use Rattle.std.specs.Prelude.{◌≡◌, map, IfOk};
 ghost use Rattle.scan_kernels.specs.Elementwise.{as_number, is_true};
-ghost use Rattle.scan_kernels.specs.Metering.{raised};
+ghost use Rattle.scan_kernels.specs.Metering.{CountsRun};
 
 use crate::meter::Meter;
 use segment_desc::OutOfMemory;
@@ -17,8 +17,7 @@ pub fn truth(
     a: &[i64],
 ) -> Result<Vec<bool>, OutOfMemory>
     ensures map { IfOk result (λ v. v.items ≡ map is_true a.now) }
-    ensures counted { OnOk result (meter.new ≡ raised meter.old) }
-    ensures err { OnErr result (meter.new ≡ meter.old) }
+    ensures counted { CountsRun result meter.old meter.new }
 {
     let made = truths(alloc, a)?;
     meter.raise();
@@ -49,8 +48,7 @@ pub fn number(
     a: &[bool],
 ) -> Result<Vec<i64>, OutOfMemory>
     ensures map { IfOk result (λ v. v.items ≡ map as_number a.now) }
-    ensures counted { OnOk result (meter.new ≡ raised meter.old) }
-    ensures err { OnErr result (meter.new ≡ meter.old) }
+    ensures counted { CountsRun result meter.old meter.new }
 {
     let made = numbers(alloc, a)?;
     meter.raise();

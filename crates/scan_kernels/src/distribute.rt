@@ -1,8 +1,8 @@
 //! Each value as often as its segment is long.
 
-ghost use Rattle.std.specs.Prelude.{◌≡◌, ◌+◌, ◌≤◌, ◌++◌, length, sum, vec_len, vec_capacity, IfOk, OnOk, OnErr};
+ghost use Rattle.std.specs.Prelude.{◌≡◌, ◌+◌, ◌≤◌, ◌++◌, length, sum, vec_len, vec_capacity, IfOk};
 ghost use Rattle.scan_kernels.specs.Distributed.{distributed};
-ghost use Rattle.scan_kernels.specs.Metering.{raised};
+ghost use Rattle.scan_kernels.specs.Metering.{CountsRun};
 
 use crate::fill::{copy, repeat};
 use crate::meter::Meter;
@@ -22,8 +22,7 @@ pub fn distribute_z(
 ) -> Result<Vec<i64>, OutOfMemory>
     requires { length segments.now ≡ length values.now }
     ensures distribute { IfOk result (λ v. v.items ≡ distributed segments.now values.now) }
-    ensures counted { OnOk result (meter.new ≡ raised meter.old) }
-    ensures err { OnErr result (meter.new ≡ meter.old) }
+    ensures counted { CountsRun result meter.old meter.new }
 {
     let made = distribute(alloc, values, segments.lengths(), segments.total())?;
     meter.raise();
@@ -41,8 +40,7 @@ pub fn distribute_b(
 ) -> Result<Vec<bool>, OutOfMemory>
     requires { length segments.now ≡ length flags.now }
     ensures distribute { IfOk result (λ v. v.items ≡ distributed segments.now flags.now) }
-    ensures counted { OnOk result (meter.new ≡ raised meter.old) }
-    ensures err { OnErr result (meter.new ≡ meter.old) }
+    ensures counted { CountsRun result meter.old meter.new }
 {
     let made = distribute(alloc, flags, segments.lengths(), segments.total())?;
     meter.raise();

@@ -1,10 +1,10 @@
 //! Integers that rise by a stride from the start of each segment.
 
-ghost use Rattle.std.specs.Prelude.{◌≡◌, ◌+◌, ◌≤◌, ◌++◌, length, map, sum, vec_len, vec_capacity, IfOk, OnOk, OnErr};
+ghost use Rattle.std.specs.Prelude.{◌≡◌, ◌+◌, ◌≤◌, ◌++◌, length, map, sum, vec_len, vec_capacity, IfOk};
 ghost use Rattle.std.specs.List.{zip};
 ghost use Rattle.segment_desc.specs.Lengths.{IsWithinLimits, most};
 ghost use Rattle.scan_kernels.specs.Indexed.{indexed, item_at, segmented_index};
-ghost use Rattle.scan_kernels.specs.Metering.{raised};
+ghost use Rattle.scan_kernels.specs.Metering.{CountsRun};
 
 use crate::meter::Meter;
 use crate::singles::{BLOCK, are_single};
@@ -25,8 +25,7 @@ pub fn index(
     requires starts { length segments.now ≡ length starts.now }
     requires strides { length segments.now ≡ length strides.now }
     ensures index { IfOk result (λ v. v.items ≡ segmented_index segments.now starts.now strides.now) }
-    ensures counted { OnOk result (meter.new ≡ raised meter.old) }
-    ensures err { OnErr result (meter.new ≡ meter.old) }
+    ensures counted { CountsRun result meter.old meter.new }
 {
     let made = index_each(alloc, starts, strides, segments.lengths(), segments.total())?;
     meter.raise();

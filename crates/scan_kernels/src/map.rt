@@ -3,11 +3,11 @@
 //! Each arm of a choice names its operation, so that the inlined loop is built once for each operation, without a choice
 //! at each item.
 
-ghost use Rattle.std.specs.Prelude.{◌≡◌, length, map, All, IfOk, OnOk, OnErr};
+ghost use Rattle.std.specs.Prelude.{◌≡◌, length, map, All, IfOk};
 ghost use Rattle.scan_kernels.specs.IntegerOps.{IsAllowed, alter_z, apply_z};
 ghost use Rattle.scan_kernels.specs.BooleanOps.{alter_b, apply_b};
 ghost use Rattle.scan_kernels.specs.Elementwise.{item_by_item};
-ghost use Rattle.scan_kernels.specs.Metering.{raised};
+ghost use Rattle.scan_kernels.specs.Metering.{CountsRun};
 
 use crate::meter::Meter;
 use crate::operation::{B1, B2, Z1, Z2};
@@ -24,8 +24,7 @@ pub fn map1_z(
     a: &[i64],
 ) -> Result<Vec<i64>, OutOfMemory>
     ensures map { IfOk result (λ v. v.items ≡ map (alter_z op) a.now) }
-    ensures counted { OnOk result (meter.new ≡ raised meter.old) }
-    ensures err { OnErr result (meter.new ≡ meter.old) }
+    ensures counted { CountsRun result meter.old meter.new }
 {
     let made = match op {
         Z1::Not => altered_z(alloc, Z1::Not, a)?,
@@ -55,8 +54,7 @@ pub fn map1_b(
     a: &[bool],
 ) -> Result<Vec<bool>, OutOfMemory>
     ensures map { IfOk result (λ v. v.items ≡ map (alter_b op) a.now) }
-    ensures counted { OnOk result (meter.new ≡ raised meter.old) }
-    ensures err { OnErr result (meter.new ≡ meter.old) }
+    ensures counted { CountsRun result meter.old meter.new }
 {
     let made = match op {
         B1::Not => altered_b(alloc, B1::Not, a)?,
@@ -90,8 +88,7 @@ pub fn map2_z(
     requires same_length { length a.now ≡ length b.now }
     requires allowed { All (IsAllowed op) b.now }
     ensures map { IfOk result (λ v. v.items ≡ item_by_item (apply_z op) a.now b.now) }
-    ensures counted { OnOk result (meter.new ≡ raised meter.old) }
-    ensures err { OnErr result (meter.new ≡ meter.old) }
+    ensures counted { CountsRun result meter.old meter.new }
 {
     let made = chosen_z(alloc, op, a, b)?;
     meter.raise();
@@ -144,8 +141,7 @@ pub fn map2_b(
 ) -> Result<Vec<bool>, OutOfMemory>
     requires { length a.now ≡ length b.now }
     ensures map { IfOk result (λ v. v.items ≡ item_by_item (apply_b op) a.now b.now) }
-    ensures counted { OnOk result (meter.new ≡ raised meter.old) }
-    ensures err { OnErr result (meter.new ≡ meter.old) }
+    ensures counted { CountsRun result meter.old meter.new }
 {
     let made = match op {
         B2::And => applied_b(alloc, B2::And, a, b)?,

@@ -3,11 +3,11 @@
 //! Each arm of a choice names its operation, so that the inlined loop is built once for each operation, without a choice
 //! at each item.
 
-ghost use Rattle.std.specs.Prelude.{◌≡◌, ◌+◌, ◌≤◌, ◌%◌, ◌++◌, length, drop, sum, fold, vec_len, vec_capacity, IfOk, OnOk, OnErr};
+ghost use Rattle.std.specs.Prelude.{◌≡◌, ◌+◌, ◌≤◌, ◌%◌, ◌++◌, length, drop, sum, fold, vec_len, vec_capacity, IfOk};
 ghost use Rattle.scan_kernels.specs.Segmented.{scanned, segmented_scan};
 ghost use Rattle.scan_kernels.specs.IntegerScans.{combine_z, unit_z};
 ghost use Rattle.scan_kernels.specs.BooleanScans.{combine_b, unit_b};
-ghost use Rattle.scan_kernels.specs.Metering.{raised};
+ghost use Rattle.scan_kernels.specs.Metering.{CountsRun};
 
 use crate::combine::{Combine, ScanB, ScanZ};
 use crate::fill::repeat;
@@ -29,8 +29,7 @@ pub fn scan_z(
 ) -> Result<Vec<i64>, OutOfMemory>
     requires { sum segments.now ≡ length items.now }
     ensures scan { IfOk result (λ v. v.items ≡ segmented_scan (combine_z op) (unit_z op) segments.now items.now) }
-    ensures counted { OnOk result (meter.new ≡ raised meter.old) }
-    ensures err { OnErr result (meter.new ≡ meter.old) }
+    ensures counted { CountsRun result meter.old meter.new }
 {
     let lengths = segments.lengths();
     let made = match op {
@@ -58,8 +57,7 @@ pub fn scan_b(
 ) -> Result<Vec<bool>, OutOfMemory>
     requires { sum segments.now ≡ length items.now }
     ensures scan { IfOk result (λ v. v.items ≡ segmented_scan (combine_b op) (unit_b op) segments.now items.now) }
-    ensures counted { OnOk result (meter.new ≡ raised meter.old) }
-    ensures err { OnErr result (meter.new ≡ meter.old) }
+    ensures counted { CountsRun result meter.old meter.new }
 {
     let lengths = segments.lengths();
     let made = match op {

@@ -1,8 +1,8 @@
 //! The choice between two vectors item by item. Want of memory leaves the meter as it was.
 
-ghost use Rattle.std.specs.Prelude.{◌≡◌, length, if◌then◌else◌, IfOk, OnOk, OnErr};
+ghost use Rattle.std.specs.Prelude.{◌≡◌, length, if◌then◌else◌, IfOk};
 ghost use Rattle.scan_kernels.specs.Elementwise.{selected};
-ghost use Rattle.scan_kernels.specs.Metering.{raised};
+ghost use Rattle.scan_kernels.specs.Metering.{CountsRun};
 
 use crate::meter::Meter;
 use segment_desc::OutOfMemory;
@@ -22,8 +22,7 @@ pub fn select_z(
     requires first { length flags.now ≡ length a.now }
     requires second { length flags.now ≡ length b.now }
     ensures selected { IfOk result (λ v. v.items ≡ selected flags.now a.now b.now) }
-    ensures counted { OnOk result (meter.new ≡ raised meter.old) }
-    ensures err { OnErr result (meter.new ≡ meter.old) }
+    ensures counted { CountsRun result meter.old meter.new }
 {
     let items = chosen(alloc, flags, a, b)?;
     meter.raise();
@@ -43,8 +42,7 @@ pub fn select_b(
     requires first { length flags.now ≡ length a.now }
     requires second { length flags.now ≡ length b.now }
     ensures selected { IfOk result (λ v. v.items ≡ selected flags.now a.now b.now) }
-    ensures counted { OnOk result (meter.new ≡ raised meter.old) }
-    ensures err { OnErr result (meter.new ≡ meter.old) }
+    ensures counted { CountsRun result meter.old meter.new }
 {
     let truths = chosen(alloc, flags, a, b)?;
     meter.raise();
