@@ -4,5 +4,6 @@ pub mod Mapped
 pub mod NextSegment
 pub mod OneItem
 pub mod Paired
+pub mod ResultLengths
 pub mod Scanned
 pub mod Tested

@@ -1,6 +1,7 @@
 //! A comparison item by item. Want of memory leaves the meter as it was.
 
 ghost use Rattle.std.specs.Prelude.{◌≡◌, length, IfOk};
+ghost use Rattle.segment_desc.specs.Appended.{IsExact};
 ghost use Rattle.scan_kernels.specs.IntegerOps.{compares};
 ghost use Rattle.scan_kernels.specs.Elementwise.{item_by_item};
 ghost use Rattle.scan_kernels.specs.Metering.{CountsRun};
@@ -23,6 +24,7 @@ pub fn compare2(
 ) -> Result<Vec<bool>, OutOfMemory>
     requires { length a.now ≡ length b.now }
     ensures map { IfOk result (λ v. v.items ≡ item_by_item (compares op) a.now b.now) }
+    ensures exact { IfOk result (λ v. IsExact v) }
     ensures counted { CountsRun result meter.old meter.new }
 {
     let made = match op {
@@ -41,7 +43,8 @@ pub fn compare2(
 #[inline(always)]
 fn compared(alloc: Global, op: Cmp, a: &[i64], b: &[i64]) -> Result<Vec<bool>, AllocError>
     requires { length a.now ≡ length b.now }
-    ensures { IfOk result (λ v. v.items ≡ item_by_item (compares op) a.now b.now) }
+    ensures items { IfOk result (λ v. v.items ≡ item_by_item (compares op) a.now b.now) }
+    ensures exact { IfOk result (λ v. IsExact v) }
 {
     let mut made = Vec::with_capacity(alloc, a.len())?;
     for i in 0..a.len() {

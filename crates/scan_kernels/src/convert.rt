@@ -1,6 +1,7 @@
 //! Integers as truth values, and truth values as integers. Want of memory leaves the meter as it was.
 
 ghost use Rattle.std.specs.Prelude.{◌≡◌, map, IfOk};
+ghost use Rattle.segment_desc.specs.Appended.{IsExact};
 ghost use Rattle.scan_kernels.specs.Elementwise.{as_number, is_true};
 ghost use Rattle.scan_kernels.specs.Metering.{CountsRun};
 
@@ -17,6 +18,7 @@ pub fn truth(
     a: &[i64],
 ) -> Result<Vec<bool>, OutOfMemory>
     ensures map { IfOk result (λ v. v.items ≡ map is_true a.now) }
+    ensures exact { IfOk result (λ v. IsExact v) }
     ensures counted { CountsRun result meter.old meter.new }
 {
     let made = truths(alloc, a)?;
@@ -25,7 +27,8 @@ pub fn truth(
 }
 
 fn truths(alloc: Global, a: &[i64]) -> Result<Vec<bool>, AllocError>
-    ensures { IfOk result (λ v. v.items ≡ map is_true a.now) }
+    ensures items { IfOk result (λ v. v.items ≡ map is_true a.now) }
+    ensures exact { IfOk result (λ v. IsExact v) }
 {
     let mut made = Vec::with_capacity(alloc, a.len())?;
     for x in a {
@@ -48,6 +51,7 @@ pub fn number(
     a: &[bool],
 ) -> Result<Vec<i64>, OutOfMemory>
     ensures map { IfOk result (λ v. v.items ≡ map as_number a.now) }
+    ensures exact { IfOk result (λ v. IsExact v) }
     ensures counted { CountsRun result meter.old meter.new }
 {
     let made = numbers(alloc, a)?;
@@ -56,7 +60,8 @@ pub fn number(
 }
 
 fn numbers(alloc: Global, a: &[bool]) -> Result<Vec<i64>, AllocError>
-    ensures { IfOk result (λ v. v.items ≡ map as_number a.now) }
+    ensures items { IfOk result (λ v. v.items ≡ map as_number a.now) }
+    ensures exact { IfOk result (λ v. IsExact v) }
 {
     let mut made = Vec::with_capacity(alloc, a.len())?;
     for x in a {

@@ -1,13 +1,14 @@
 //! Each value as often as its segment is long.
 
 ghost use Rattle.std.specs.Prelude.{◌≡◌, ◌+◌, ◌≤◌, ◌++◌, length, sum, vec_len, vec_capacity, IfOk};
+ghost use Rattle.segment_desc.specs.Appended.{Appends, IsExact};
 ghost use Rattle.scan_kernels.specs.Distributed.{distributed};
 ghost use Rattle.scan_kernels.specs.Metering.{CountsRun};
 
-use crate::fill::{copy, repeat};
+use crate::fill::repeat;
 use crate::meter::Meter;
 use crate::singles::{BLOCK, are_single};
-use segment_desc::{OutOfMemory, Segd};
+use segment_desc::{OutOfMemory, Segd, append_reserved};
 use std::alloc::{AllocError, Global};
 use std::thread::Threads;
 
@@ -22,6 +23,7 @@ pub fn distribute_z(
 ) -> Result<Vec<i64>, OutOfMemory>
     requires { length segments.now ≡ length values.now }
     ensures distribute { IfOk result (λ v. v.items ≡ distributed segments.now values.now) }
+    ensures exact { IfOk result (λ v. IsExact v) }
     ensures counted { CountsRun result meter.old meter.new }
 {
     let made = distribute(alloc, values, segments.lengths(), segments.total())?;
@@ -40,6 +42,7 @@ pub fn distribute_b(
 ) -> Result<Vec<bool>, OutOfMemory>
     requires { length segments.now ≡ length flags.now }
     ensures distribute { IfOk result (λ v. v.items ≡ distributed segments.now flags.now) }
+    ensures exact { IfOk result (λ v. IsExact v) }
     ensures counted { CountsRun result meter.old meter.new }
 {
     let made = distribute(alloc, flags, segments.lengths(), segments.total())?;
@@ -55,7 +58,8 @@ fn distribute<T: Copy>(
 ) -> Result<Vec<T>, AllocError>
     requires count { length lengths.now ≡ length values.now }
     requires total { total ≡ sum lengths.now }
-    ensures { IfOk result (λ v. v.items ≡ distributed lengths.now values.now) }
+    ensures items { IfOk result (λ v. v.items ≡ distributed lengths.now values.now) }
+    ensures exact { IfOk result (λ v. IsExact v) }
 {
     let mut made = Vec::with_capacity(alloc, total)?;
     let mut rest = values;
@@ -71,12 +75,10 @@ fn distribute<T: Copy>(
 fn distribute_block<T: Copy>(values: &[T], lengths: &[usize], made: &mut Vec<T>)
     requires count { length lengths.now ≡ length values.now }
     requires room { vec_len made.old + sum lengths.now ≤ vec_capacity made.old }
-    ensures distribute { made.new.items ≡ made.old.items ++ distributed lengths.now values.now }
-    ensures long { vec_len made.new ≡ vec_len made.old + sum lengths.now }
-    ensures capacity { vec_capacity made.new ≡ vec_capacity made.old }
+    ensures { Appends made.old made.new (distributed lengths.now values.now) }
 {
     if are_single(lengths) {
-        copy(values, made);
+        append_reserved(values, made);
     } else {
         distribute_each(values, lengths, made);
     }
@@ -86,9 +88,7 @@ fn distribute_block<T: Copy>(values: &[T], lengths: &[usize], made: &mut Vec<T>)
 fn distribute_each<T: Copy>(values: &[T], lengths: &[usize], made: &mut Vec<T>)
     requires count { length lengths.now ≡ length values.now }
     requires room { vec_len made.old + sum lengths.now ≤ vec_capacity made.old }
-    ensures distribute { made.new.items ≡ made.old.items ++ distributed lengths.now values.now }
-    ensures long { vec_len made.new ≡ vec_len made.old + sum lengths.now }
-    ensures capacity { vec_capacity made.new ≡ vec_capacity made.old }
+    ensures { Appends made.old made.new (distributed lengths.now values.now) }
 {
     for j in 0..lengths.len() {
         repeat(values[j], lengths[j], made);

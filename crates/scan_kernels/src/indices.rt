@@ -3,6 +3,7 @@
 ghost use Rattle.std.specs.Prelude.{◌≡◌, ◌+◌, ◌≤◌, ◌++◌, length, map, sum, vec_len, vec_capacity, IfOk};
 ghost use Rattle.std.specs.List.{zip};
 ghost use Rattle.segment_desc.specs.Lengths.{IsWithinLimits, most};
+ghost use Rattle.segment_desc.specs.Appended.{Appends, IsExact};
 ghost use Rattle.scan_kernels.specs.Indexed.{indexed, item_at, segmented_index};
 ghost use Rattle.scan_kernels.specs.Metering.{CountsRun};
 
@@ -25,6 +26,7 @@ pub fn index(
     requires starts { length segments.now ≡ length starts.now }
     requires strides { length segments.now ≡ length strides.now }
     ensures index { IfOk result (λ v. v.items ≡ segmented_index segments.now starts.now strides.now) }
+    ensures exact { IfOk result (λ v. IsExact v) }
     ensures counted { CountsRun result meter.old meter.new }
 {
     let made = index_each(alloc, starts, strides, segments.lengths(), segments.total())?;
@@ -43,7 +45,8 @@ fn index_each(
     requires strides { length lengths.now ≡ length strides.now }
     requires total { total ≡ sum lengths.now }
     requires within { IsWithinLimits lengths.now }
-    ensures { IfOk result (λ v. v.items ≡ segmented_index lengths.now starts.now strides.now) }
+    ensures items { IfOk result (λ v. v.items ≡ segmented_index lengths.now starts.now strides.now) }
+    ensures exact { IfOk result (λ v. IsExact v) }
 {
     let mut made = Vec::with_capacity(alloc, total)?;
     let mut rest_starts = starts;
@@ -64,9 +67,7 @@ fn index_block(starts: &[i64], strides: &[i64], lengths: &[usize], made: &mut Ve
     requires strides { length lengths.now ≡ length strides.now }
     requires room { vec_len made.old + sum lengths.now ≤ vec_capacity made.old }
     requires within { IsWithinLimits lengths.now }
-    ensures index { made.new.items ≡ made.old.items ++ segmented_index lengths.now starts.now strides.now }
-    ensures long { vec_len made.new ≡ vec_len made.old + sum lengths.now }
-    ensures capacity { vec_capacity made.new ≡ vec_capacity made.old }
+    ensures { Appends made.old made.new (segmented_index lengths.now starts.now strides.now) }
 {
     if are_single(lengths) {
         index_singles(starts, strides, made);
@@ -79,9 +80,7 @@ fn index_block(starts: &[i64], strides: &[i64], lengths: &[usize], made: &mut Ve
 fn index_singles(starts: &[i64], strides: &[i64], made: &mut Vec<i64>)
     requires same_length { length starts.now ≡ length strides.now }
     requires room { vec_len made.old + length starts.now ≤ vec_capacity made.old }
-    ensures index { made.new.items ≡ made.old.items ++ map (λ p. item_at p.0 p.1 0) (zip starts.now strides.now) }
-    ensures long { vec_len made.new ≡ vec_len made.old + length starts.now }
-    ensures capacity { vec_capacity made.new ≡ vec_capacity made.old }
+    ensures { Appends made.old made.new (map (λ p. item_at p.0 p.1 0) (zip starts.now strides.now)) }
 {
     for j in 0..starts.len() {
         made.push_reserved(item_at(starts[j], strides[j], 0));
@@ -94,9 +93,7 @@ fn index_segments(starts: &[i64], strides: &[i64], lengths: &[usize], made: &mut
     requires strides { length lengths.now ≡ length strides.now }
     requires room { vec_len made.old + sum lengths.now ≤ vec_capacity made.old }
     requires within { IsWithinLimits lengths.now }
-    ensures index { made.new.items ≡ made.old.items ++ segmented_index lengths.now starts.now strides.now }
-    ensures long { vec_len made.new ≡ vec_len made.old + sum lengths.now }
-    ensures capacity { vec_capacity made.new ≡ vec_capacity made.old }
+    ensures { Appends made.old made.new (segmented_index lengths.now starts.now strides.now) }
 {
     for j in 0..lengths.len() {
         index_segment(starts[j], strides[j], lengths[j], made);
@@ -107,9 +104,7 @@ fn index_segments(starts: &[i64], strides: &[i64], lengths: &[usize], made: &mut
 fn index_segment(start: i64, stride: i64, length: usize, made: &mut Vec<i64>)
     requires room { vec_len made.old + length ≤ vec_capacity made.old }
     requires within { length ≤ most }
-    ensures index { made.new.items ≡ made.old.items ++ indexed start stride length }
-    ensures long { vec_len made.new ≡ vec_len made.old + length }
-    ensures capacity { vec_capacity made.new ≡ vec_capacity made.old }
+    ensures { Appends made.old made.new (indexed start stride length) }
 {
     for i in 0..length {
         made.push_reserved(item_at(start, stride, i));

@@ -4,6 +4,7 @@
 //! at each item.
 
 ghost use Rattle.std.specs.Prelude.{◌≡◌, length, map, All, IfOk};
+ghost use Rattle.segment_desc.specs.Appended.{IsExact};
 ghost use Rattle.scan_kernels.specs.IntegerOps.{IsAllowed, alter_z, apply_z};
 ghost use Rattle.scan_kernels.specs.BooleanOps.{alter_b, apply_b};
 ghost use Rattle.scan_kernels.specs.Elementwise.{item_by_item};
@@ -24,6 +25,7 @@ pub fn map1_z(
     a: &[i64],
 ) -> Result<Vec<i64>, OutOfMemory>
     ensures map { IfOk result (λ v. v.items ≡ map (alter_z op) a.now) }
+    ensures exact { IfOk result (λ v. IsExact v) }
     ensures counted { CountsRun result meter.old meter.new }
 {
     let made = match op {
@@ -36,7 +38,8 @@ pub fn map1_z(
 
 #[inline(always)]
 fn altered_z(alloc: Global, op: Z1, a: &[i64]) -> Result<Vec<i64>, AllocError>
-    ensures { IfOk result (λ v. v.items ≡ map (alter_z op) a.now) }
+    ensures items { IfOk result (λ v. v.items ≡ map (alter_z op) a.now) }
+    ensures exact { IfOk result (λ v. IsExact v) }
 {
     let mut made = Vec::with_capacity(alloc, a.len())?;
     for x in a {
@@ -54,6 +57,7 @@ pub fn map1_b(
     a: &[bool],
 ) -> Result<Vec<bool>, OutOfMemory>
     ensures map { IfOk result (λ v. v.items ≡ map (alter_b op) a.now) }
+    ensures exact { IfOk result (λ v. IsExact v) }
     ensures counted { CountsRun result meter.old meter.new }
 {
     let made = match op {
@@ -66,7 +70,8 @@ pub fn map1_b(
 
 #[inline(always)]
 fn altered_b(alloc: Global, op: B1, a: &[bool]) -> Result<Vec<bool>, AllocError>
-    ensures { IfOk result (λ v. v.items ≡ map (alter_b op) a.now) }
+    ensures items { IfOk result (λ v. v.items ≡ map (alter_b op) a.now) }
+    ensures exact { IfOk result (λ v. IsExact v) }
 {
     let mut made = Vec::with_capacity(alloc, a.len())?;
     for x in a {
@@ -88,6 +93,7 @@ pub fn map2_z(
     requires same_length { length a.now ≡ length b.now }
     requires allowed { All (IsAllowed op) b.now }
     ensures map { IfOk result (λ v. v.items ≡ item_by_item (apply_z op) a.now b.now) }
+    ensures exact { IfOk result (λ v. IsExact v) }
     ensures counted { CountsRun result meter.old meter.new }
 {
     let made = chosen_z(alloc, op, a, b)?;
@@ -98,7 +104,8 @@ pub fn map2_z(
 fn chosen_z(alloc: Global, op: Z2, a: &[i64], b: &[i64]) -> Result<Vec<i64>, AllocError>
     requires same_length { length a.now ≡ length b.now }
     requires allowed { All (IsAllowed op) b.now }
-    ensures { IfOk result (λ v. v.items ≡ item_by_item (apply_z op) a.now b.now) }
+    ensures items { IfOk result (λ v. v.items ≡ item_by_item (apply_z op) a.now b.now) }
+    ensures exact { IfOk result (λ v. IsExact v) }
 {
     match op {
         Z2::Add => applied_z(alloc, Z2::Add, a, b),
@@ -120,7 +127,8 @@ fn chosen_z(alloc: Global, op: Z2, a: &[i64], b: &[i64]) -> Result<Vec<i64>, All
 fn applied_z(alloc: Global, op: Z2, a: &[i64], b: &[i64]) -> Result<Vec<i64>, AllocError>
     requires same_length { length a.now ≡ length b.now }
     requires allowed { All (IsAllowed op) b.now }
-    ensures { IfOk result (λ v. v.items ≡ item_by_item (apply_z op) a.now b.now) }
+    ensures items { IfOk result (λ v. v.items ≡ item_by_item (apply_z op) a.now b.now) }
+    ensures exact { IfOk result (λ v. IsExact v) }
 {
     let mut made = Vec::with_capacity(alloc, a.len())?;
     for i in 0..a.len() {
@@ -141,6 +149,7 @@ pub fn map2_b(
 ) -> Result<Vec<bool>, OutOfMemory>
     requires { length a.now ≡ length b.now }
     ensures map { IfOk result (λ v. v.items ≡ item_by_item (apply_b op) a.now b.now) }
+    ensures exact { IfOk result (λ v. IsExact v) }
     ensures counted { CountsRun result meter.old meter.new }
 {
     let made = match op {
@@ -155,7 +164,8 @@ pub fn map2_b(
 #[inline(always)]
 fn applied_b(alloc: Global, op: B2, a: &[bool], b: &[bool]) -> Result<Vec<bool>, AllocError>
     requires { length a.now ≡ length b.now }
-    ensures { IfOk result (λ v. v.items ≡ item_by_item (apply_b op) a.now b.now) }
+    ensures items { IfOk result (λ v. v.items ≡ item_by_item (apply_b op) a.now b.now) }
+    ensures exact { IfOk result (λ v. IsExact v) }
 {
     let mut made = Vec::with_capacity(alloc, a.len())?;
     for i in 0..a.len() {

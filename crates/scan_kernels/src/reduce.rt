@@ -4,6 +4,7 @@
 //! at each item.
 
 ghost use Rattle.std.specs.Prelude.{◌≡◌, ◌+◌, ◌≤◌, ◌++◌, length, drop, map, sum, fold, vec_len, vec_capacity, IfOk};
+ghost use Rattle.segment_desc.specs.Appended.{Appends, IsExact};
 ghost use Rattle.scan_kernels.specs.Segmented.{segmented_reduce};
 ghost use Rattle.scan_kernels.specs.IntegerScans.{combine_z, unit_z};
 ghost use Rattle.scan_kernels.specs.BooleanScans.{combine_b, unit_b};
@@ -28,6 +29,7 @@ pub fn reduce_z(
 ) -> Result<Vec<i64>, OutOfMemory>
     requires { sum segments.now ≡ length items.now }
     ensures reduce { IfOk result (λ v. v.items ≡ segmented_reduce (combine_z op) (unit_z op) segments.now items.now) }
+    ensures exact { IfOk result (λ v. IsExact v) }
     ensures counted { CountsRun result meter.old meter.new }
 {
     let lengths = segments.lengths();
@@ -56,6 +58,7 @@ pub fn reduce_b(
 ) -> Result<Vec<bool>, OutOfMemory>
     requires { sum segments.now ≡ length items.now }
     ensures reduce { IfOk result (λ v. v.items ≡ segmented_reduce (combine_b op) (unit_b op) segments.now items.now) }
+    ensures exact { IfOk result (λ v. IsExact v) }
     ensures counted { CountsRun result meter.old meter.new }
 {
     let lengths = segments.lengths();
@@ -76,7 +79,8 @@ fn reduce<O: Combine>(
     lengths: &[usize],
 ) -> Result<Vec<O::Item>, AllocError>
     requires { sum lengths.now ≡ length items.now }
-    ensures { IfOk result (λ v. v.items ≡ segmented_reduce (O.combined op) (O.unit_of op) lengths.now items.now) }
+    ensures items { IfOk result (λ v. v.items ≡ segmented_reduce (O.combined op) (O.unit_of op) lengths.now items.now) }
+    ensures exact { IfOk result (λ v. IsExact v) }
 {
     let mut made = Vec::with_capacity(alloc, lengths.len())?;
     let mut rest = items;
@@ -96,10 +100,8 @@ fn reduce_block<'a, O: Combine>(
 ) -> &'a [O::Item]
     requires within { sum lengths.now ≤ length items.now }
     requires room { vec_len made.old + length lengths.now ≤ vec_capacity made.old }
-    ensures reduce { made.new.items ≡ made.old.items ++ segmented_reduce (O.combined op) (O.unit_of op) lengths.now items.now }
+    ensures reduce { Appends made.old made.new (segmented_reduce (O.combined op) (O.unit_of op) lengths.now items.now) }
     ensures rest { result.now ≡ drop (sum lengths.now) items.now }
-    ensures long { vec_len made.new ≡ vec_len made.old + length lengths.now }
-    ensures capacity { vec_capacity made.new ≡ vec_capacity made.old }
 {
     if !are_single(lengths) {
         return reduce_each(op, items, lengths, made);
@@ -112,9 +114,7 @@ fn reduce_block<'a, O: Combine>(
 #[inline(always)]
 fn reduce_singles<O: Combine>(op: O, items: &[O::Item], made: &mut Vec<O::Item>)
     requires { vec_len made.old + length items.now ≤ vec_capacity made.old }
-    ensures reduce { made.new.items ≡ made.old.items ++ map (O.combined op (O.unit_of op)) items.now }
-    ensures long { vec_len made.new ≡ vec_len made.old + length items.now }
-    ensures capacity { vec_capacity made.new ≡ vec_capacity made.old }
+    ensures { Appends made.old made.new (map (O.combined op (O.unit_of op)) items.now) }
 {
     for &item in items {
         made.push_reserved(op.combine(op.unit(), item));
@@ -130,10 +130,8 @@ fn reduce_each<'a, O: Combine>(
 ) -> &'a [O::Item]
     requires within { sum lengths.now ≤ length items.now }
     requires room { vec_len made.old + length lengths.now ≤ vec_capacity made.old }
-    ensures reduce { made.new.items ≡ made.old.items ++ segmented_reduce (O.combined op) (O.unit_of op) lengths.now items.now }
+    ensures reduce { Appends made.old made.new (segmented_reduce (O.combined op) (O.unit_of op) lengths.now items.now) }
     ensures rest { result.now ≡ drop (sum lengths.now) items.now }
-    ensures long { vec_len made.new ≡ vec_len made.old + length lengths.now }
-    ensures capacity { vec_capacity made.new ≡ vec_capacity made.old }
 {
     let mut rest = items;
     for &length in lengths {

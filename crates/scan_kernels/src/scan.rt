@@ -4,6 +4,7 @@
 //! at each item.
 
 ghost use Rattle.std.specs.Prelude.{◌≡◌, ◌+◌, ◌≤◌, ◌%◌, ◌++◌, length, drop, sum, fold, vec_len, vec_capacity, IfOk};
+ghost use Rattle.segment_desc.specs.Appended.{Appends, IsExact};
 ghost use Rattle.scan_kernels.specs.Segmented.{scanned, segmented_scan};
 ghost use Rattle.scan_kernels.specs.IntegerScans.{combine_z, unit_z};
 ghost use Rattle.scan_kernels.specs.BooleanScans.{combine_b, unit_b};
@@ -29,6 +30,7 @@ pub fn scan_z(
 ) -> Result<Vec<i64>, OutOfMemory>
     requires { sum segments.now ≡ length items.now }
     ensures scan { IfOk result (λ v. v.items ≡ segmented_scan (combine_z op) (unit_z op) segments.now items.now) }
+    ensures exact { IfOk result (λ v. IsExact v) }
     ensures counted { CountsRun result meter.old meter.new }
 {
     let lengths = segments.lengths();
@@ -57,6 +59,7 @@ pub fn scan_b(
 ) -> Result<Vec<bool>, OutOfMemory>
     requires { sum segments.now ≡ length items.now }
     ensures scan { IfOk result (λ v. v.items ≡ segmented_scan (combine_b op) (unit_b op) segments.now items.now) }
+    ensures exact { IfOk result (λ v. IsExact v) }
     ensures counted { CountsRun result meter.old meter.new }
 {
     let lengths = segments.lengths();
@@ -77,7 +80,8 @@ fn scan<O: Combine>(
     lengths: &[usize],
 ) -> Result<Vec<O::Item>, AllocError>
     requires { sum lengths.now ≡ length items.now }
-    ensures { IfOk result (λ v. v.items ≡ segmented_scan (O.combined op) (O.unit_of op) lengths.now items.now) }
+    ensures items { IfOk result (λ v. v.items ≡ segmented_scan (O.combined op) (O.unit_of op) lengths.now items.now) }
+    ensures exact { IfOk result (λ v. IsExact v) }
 {
     let mut made = Vec::with_capacity(alloc, items.len())?;
     let mut rest = items;
@@ -97,10 +101,8 @@ fn scan_block<'a, O: Combine>(
 ) -> &'a [O::Item]
     requires within { sum lengths.now ≤ length items.now }
     requires room { vec_len made.old + sum lengths.now ≤ vec_capacity made.old }
-    ensures scan { made.new.items ≡ made.old.items ++ segmented_scan (O.combined op) (O.unit_of op) lengths.now items.now }
+    ensures scan { Appends made.old made.new (segmented_scan (O.combined op) (O.unit_of op) lengths.now items.now) }
     ensures rest { result.now ≡ drop (sum lengths.now) items.now }
-    ensures long { vec_len made.new ≡ vec_len made.old + sum lengths.now }
-    ensures capacity { vec_capacity made.new ≡ vec_capacity made.old }
 {
     if !are_single(lengths) {
         return scan_each(op, items, lengths, made);
@@ -119,10 +121,8 @@ fn scan_each<'a, O: Combine>(
 ) -> &'a [O::Item]
     requires within { sum lengths.now ≤ length items.now }
     requires room { vec_len made.old + sum lengths.now ≤ vec_capacity made.old }
-    ensures scan { made.new.items ≡ made.old.items ++ segmented_scan (O.combined op) (O.unit_of op) lengths.now items.now }
+    ensures scan { Appends made.old made.new (segmented_scan (O.combined op) (O.unit_of op) lengths.now items.now) }
     ensures rest { result.now ≡ drop (sum lengths.now) items.now }
-    ensures long { vec_len made.new ≡ vec_len made.old + sum lengths.now }
-    ensures capacity { vec_capacity made.new ≡ vec_capacity made.old }
 {
     let mut rest = items;
     for &length in lengths {
@@ -136,9 +136,7 @@ fn scan_each<'a, O: Combine>(
 #[inline(always)]
 fn scan_segment<O: Combine>(op: O, items: &[O::Item], made: &mut Vec<O::Item>)
     requires { vec_len made.old + length items.now ≤ vec_capacity made.old }
-    ensures scan { made.new.items ≡ made.old.items ++ scanned (O.combined op) (O.unit_of op) items.now }
-    ensures long { vec_len made.new ≡ vec_len made.old + length items.now }
-    ensures capacity { vec_capacity made.new ≡ vec_capacity made.old }
+    ensures { Appends made.old made.new (scanned (O.combined op) (O.unit_of op) items.now) }
 {
     let (fours, rest) = items.split_at(items.len() - items.len() % 4);
     let so_far = scan_fours(op, op.unit(), fours, made);
@@ -155,10 +153,8 @@ fn scan_fours<O: Combine>(
 ) -> O::Item
     requires fours { length items.now % 4 ≡ 0 }
     requires room { vec_len made.old + length items.now ≤ vec_capacity made.old }
-    ensures scan { made.new.items ≡ made.old.items ++ scanned (O.combined op) first items.now }
+    ensures scan { Appends made.old made.new (scanned (O.combined op) first items.now) }
     ensures last { result ≡ fold (O.combined op) first items.now }
-    ensures long { vec_len made.new ≡ vec_len made.old + length items.now }
-    ensures capacity { vec_capacity made.new ≡ vec_capacity made.old }
 {
     let mut so_far = first;
     for four in 0..items.len() / 4 {
@@ -177,10 +173,8 @@ fn scan_four<O: Combine>(
 ) -> O::Item
     requires four { length items.now ≡ 4 }
     requires room { vec_len made.old + 4 ≤ vec_capacity made.old }
-    ensures scan { made.new.items ≡ made.old.items ++ scanned (O.combined op) first items.now }
+    ensures scan { Appends made.old made.new (scanned (O.combined op) first items.now) }
     ensures last { result ≡ fold (O.combined op) first items.now }
-    ensures long { vec_len made.new ≡ vec_len made.old + 4 }
-    ensures capacity { vec_capacity made.new ≡ vec_capacity made.old }
 {
     let second = op.combine(first, items[0]);
     let third = op.combine(second, items[1]);
@@ -195,9 +189,7 @@ fn scan_four<O: Combine>(
 #[inline(always)]
 fn scan_from<O: Combine>(op: O, first: O::Item, items: &[O::Item], made: &mut Vec<O::Item>)
     requires { vec_len made.old + length items.now ≤ vec_capacity made.old }
-    ensures scan { made.new.items ≡ made.old.items ++ scanned (O.combined op) first items.now }
-    ensures long { vec_len made.new ≡ vec_len made.old + length items.now }
-    ensures capacity { vec_capacity made.new ≡ vec_capacity made.old }
+    ensures { Appends made.old made.new (scanned (O.combined op) first items.now) }
 {
     let mut so_far = first;
     for &item in items {

@@ -1,6 +1,7 @@
 //! The choice between two vectors item by item. Want of memory leaves the meter as it was.
 
 ghost use Rattle.std.specs.Prelude.{◌≡◌, length, if◌then◌else◌, IfOk};
+ghost use Rattle.segment_desc.specs.Appended.{IsExact};
 ghost use Rattle.scan_kernels.specs.Elementwise.{selected};
 ghost use Rattle.scan_kernels.specs.Metering.{CountsRun};
 
@@ -22,6 +23,7 @@ pub fn select_z(
     requires first { length flags.now ≡ length a.now }
     requires second { length flags.now ≡ length b.now }
     ensures selected { IfOk result (λ v. v.items ≡ selected flags.now a.now b.now) }
+    ensures exact { IfOk result (λ v. IsExact v) }
     ensures counted { CountsRun result meter.old meter.new }
 {
     let items = chosen(alloc, flags, a, b)?;
@@ -42,6 +44,7 @@ pub fn select_b(
     requires first { length flags.now ≡ length a.now }
     requires second { length flags.now ≡ length b.now }
     ensures selected { IfOk result (λ v. v.items ≡ selected flags.now a.now b.now) }
+    ensures exact { IfOk result (λ v. IsExact v) }
     ensures counted { CountsRun result meter.old meter.new }
 {
     let truths = chosen(alloc, flags, a, b)?;
@@ -52,7 +55,8 @@ pub fn select_b(
 fn chosen<T: Copy>(alloc: Global, flags: &[bool], a: &[T], b: &[T]) -> Result<Vec<T>, AllocError>
     requires first { length flags.now ≡ length a.now }
     requires second { length flags.now ≡ length b.now }
-    ensures { IfOk result (λ v. v.items ≡ selected flags.now a.now b.now) }
+    ensures items { IfOk result (λ v. v.items ≡ selected flags.now a.now b.now) }
+    ensures exact { IfOk result (λ v. IsExact v) }
 {
     let mut made = Vec::with_capacity(alloc, flags.len())?;
     for i in 0..flags.len() {

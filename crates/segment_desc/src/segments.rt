@@ -4,6 +4,7 @@ ghost use Rattle.std.specs.Cmp.Lexicographic.{pointwise};
 ghost use Rattle.std.specs.Cmp.Rules.{comparing};
 ghost use Rattle.segment_desc.specs.Lengths.{IsWithin, IsWithinLimits, IsTooLong, HasNegative, MeasuresPast, MeasuresTooLong, has_negative, most, sizes};
 
+use crate::append::append_reserved;
 use crate::memory::OutOfMemory;
 use std::alloc::{AllocError, Global};
 use std::marker::Model;
@@ -37,7 +38,7 @@ impl From<AllocError> for SegFault {
 }
 
 /// How a vector is cut into segments: the list of their lengths, some of which may be 0. There are at most `LIMIT` of
-/// them, and their sum is at most `LIMIT`.
+/// them, and their sum is at most `LIMIT`. It takes room for them and no more.
 #[derive(Debug, Drop)]
 pub struct Segd {
     lengths: Vec<usize>,
@@ -46,13 +47,14 @@ pub struct Segd {
 
 impl Model for Segd {
     ghost use Rattle.std.specs.Prelude.{◌≡◌, List, ℕ, sum};
+    ghost use Rattle.segment_desc.specs.Appended.{IsExact};
     ghost use Rattle.segment_desc.specs.Lengths.{IsWithinLimits};
 
     ghost Value = { List ℕ };
 
     ghost view = { λ s. s.lengths.items };
 
-    ghost invariant = { λ s. (s.total ≡ sum s.lengths.items) × IsWithinLimits s.lengths.items };
+    ghost invariant = { λ s. (s.total ≡ sum s.lengths.items) × IsWithinLimits s.lengths.items × IsExact s.lengths };
 }
 
 impl PartialEq for Segd {
@@ -131,8 +133,10 @@ impl Segd {
     pub fn try_copy(&self) -> Result<Segd, OutOfMemory>
         ensures { IfOk result (λ copy. copy ≡ self.now) }
     {
+        let mut lengths = Vec::with_capacity(*self.lengths.allocator(), self.lengths.len())?;
+        append_reserved(&self.lengths, &mut lengths);
         Ok(Segd {
-            lengths: self.lengths.clone()?,
+            lengths,
             total: self.total,
         })
     }
@@ -181,7 +185,7 @@ impl Segd {
         Ok(())
     }
 
-    /// Appends the lengths of another segment list.
+    /// Appends the lengths of another segment list. It makes room for exactly these.
     pub fn join(&mut self, other: &Segd) -> Result<(), SegFault>
         ensures ok { OnOk result (self.new ≡ self.old ++ other.now) }
         ensures too_long { IsErrOf result SegFault.TooLong ↔ IsTooLong (self.old ++ other.now) }
@@ -191,7 +195,8 @@ impl Segd {
         if LIMIT - self.lengths.len() < other.lengths.len() || LIMIT - self.total < other.total {
             return Err(SegFault::TooLong);
         }
-        self.lengths.extend_from_slice(&other.lengths)?;
+        self.lengths.reserve_exact(other.lengths.len())?;
+        append_reserved(&other.lengths, &mut self.lengths);
         self.total += other.total;
         Ok(())
     }

@@ -10,5 +10,5 @@ loop-x-preserved c =
     let more = map_more as_number c.args.a.now c.loop-x.x-index false c.loop-x-test.true in
     record { made = cc; long = omega arith; room = omega arith }
 
-pub returns : goal.returns
-returns c = c.loop-x.invariant.made ∙ ap (map as_number) (take_all c.loop-x.x-index c.args.a.now c.loop-x-test.false)
+pub returns-clause-items : goal.returns-clause-items
+returns-clause-items c = c.loop-x.invariant.made ∙ ap (map as_number) (take_all c.loop-x.x-index c.args.a.now c.loop-x-test.false)

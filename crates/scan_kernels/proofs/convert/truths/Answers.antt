@@ -12,5 +12,5 @@ loop-x-preserved c =
     let more = map_more is_true xs i (pos 0) c.loop-x-test.true in
     record { made = cc; long = omega arith; room = omega arith }
 
-pub returns : goal.returns
-returns c = c.loop-x.invariant.made ∙ ap (map is_true) (take_all c.loop-x.x-index c.args.a.now c.loop-x-test.false)
+pub returns-clause-items : goal.returns-clause-items
+returns-clause-items c = c.loop-x.invariant.made ∙ ap (map is_true) (take_all c.loop-x.x-index c.args.a.now c.loop-x-test.false)

@@ -3,6 +3,7 @@ use Rattle.std.proofs.lemmas.List.Sums.{sum_by-append}
 use Rattle.std.specs.Slice.Iter.{chunks_rest}
 use Rattle.scan_kernels.specs.Indexed.{segmented_index}
 use Rattle.scan_kernels.proofs.Paired.{segmented_index-lengths-append}
+use Rattle.scan_kernels.proofs.ResultLengths.{length-segmented_index}
 use Rattle.scan_kernels.proofs.indices.index_each.Goals as goal
 
 pub loop-block-preserved : goal.loop-block-preserved
@@ -18,6 +19,7 @@ loop-block-preserved c =
     let total = ap sum parts ∙ sum_by-append (λ n. n) block later in
     let front = segmented_index block (take n starts) (take n strides) in
     let back = segmented_index later (drop n starts) (drop n strides) in
+    let many = length-segmented_index block c.split_at.result.0.now c.split_at-in-loop-block.result.0.now (omega arith) (omega arith) in
     record {
       can_next = search rules;
       is_finite = tt;
@@ -28,7 +30,7 @@ loop-block-preserved c =
           ap (λ ys. c.index_block.new.made.items ++ segmented_index later ys c.split_at-in-loop-block.result.1.now) c.split_at.ensures.back
           ∙ ap (λ ys. c.index_block.new.made.items ++ segmented_index later (drop n starts) ys) c.split_at-in-loop-block.ensures.back
           ∙ ap (λ ys. ys ++ back) (
-          c.index_block.ensures.index
+          c.index_block.ensures.items
           ∙ ap (λ ys. made ++ segmented_index block ys c.split_at-in-loop-block.result.0.now) c.split_at.ensures.front
           ∙ ap (λ ys. made ++ segmented_index block (take n starts) ys) c.split_at-in-loop-block.ensures.front
           )

@@ -1,4 +1,4 @@
-use Rattle.std.proofs.Common.{◌≡◌, ◌+◌, ◌≤◌, ◌++◌, length, sum, vec_len, vec_capacity}
+use Rattle.std.proofs.Common.{◌≡◌, ◌+◌, ◌++◌, length, sum, vec_len, vec_capacity}
 use Rattle.std.specs.Slice.Iter.{chunks_rest}
 use Rattle.segment_desc.specs.Lengths.{IsWithinLimits}
 use Rattle.scan_kernels.specs.Indexed.{segmented_index}
@@ -12,5 +12,5 @@ invariant-loop-block l = record {
   strides : length (chunks_rest l.block-iterator) ≡ length l.rest_strides;
   within : IsWithinLimits (chunks_rest l.block-iterator);
   made : l.made.items ++ segmented_index (chunks_rest l.block-iterator) l.rest_starts l.rest_strides ≡ segmented_index l.lengths l.starts l.strides;
-  room : vec_len l.made + sum (chunks_rest l.block-iterator) ≤ vec_capacity l.made;
+  room : vec_len l.made + sum (chunks_rest l.block-iterator) ≡ vec_capacity l.made;
 }

@@ -1,4 +1,4 @@
-use Rattle.std.proofs.Common.{◌≡◌, ◌≤◌, length, map, take, vec_len, vec_capacity}
+use Rattle.std.proofs.Common.{◌≡◌, length, map, take, vec_len, vec_capacity}
 use Rattle.scan_kernels.specs.IntegerOps.{alter_z}
 use Rattle.scan_kernels.proofs.map.altered_z.Given as goal
 
@@ -6,5 +6,5 @@ abbrev pub invariant-loop-x : goal.invariant-loop-x
 invariant-loop-x l = record {
   made : l.made.items ≡ map (alter_z l.op) (take l.x-index l.a);
   long : vec_len l.made ≡ l.x-index;
-  room : length l.a ≤ vec_capacity l.made;
+  room : vec_capacity l.made ≡ length l.a;
 }

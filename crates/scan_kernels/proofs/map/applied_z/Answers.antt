@@ -15,6 +15,6 @@ loop-i-preserved c =
     let more = map-take-zip_more (λ (p : ℤ × ℤ). apply_z c.args.op p.0 p.1) xs ys i (pos 0) (pos 0) c.loop-i-test.true c.requires.same_length in
     record { made = cc; long = omega arith; room = omega arith }
 
-pub returns : goal.returns
-returns c =
+pub returns-clause-items : goal.returns-clause-items
+returns-clause-items c =
     c.loop-i.invariant.made ∙ take-zip_all (λ (p : ℤ × ℤ). apply_z c.args.op p.0 p.1) c.args.a.now c.args.b.now c.loop-i.i c.loop-i-test.false

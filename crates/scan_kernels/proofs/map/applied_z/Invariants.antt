@@ -1,4 +1,4 @@
-use Rattle.std.proofs.Common.{◌≡◌, ◌≤◌, length, map, take, vec_len, vec_capacity, zip}
+use Rattle.std.proofs.Common.{◌≡◌, length, map, take, vec_len, vec_capacity, zip}
 use Rattle.scan_kernels.specs.IntegerOps.{apply_z}
 use Rattle.scan_kernels.proofs.map.applied_z.Given as goal
 
@@ -6,5 +6,5 @@ abbrev pub invariant-loop-i : goal.invariant-loop-i
 invariant-loop-i l = record {
   made : l.made.items ≡ map (λ p. apply_z l.op p.0 p.1) (take l.i (zip l.a l.b));
   long : vec_len l.made ≡ l.i;
-  room : length l.a ≤ vec_capacity l.made;
+  room : vec_capacity l.made ≡ length l.a;
 }

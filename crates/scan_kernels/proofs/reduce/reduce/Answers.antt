@@ -4,6 +4,7 @@ use Rattle.std.proofs.lemmas.List.Sums.{sum_by-append}
 use Rattle.std.specs.Slice.Iter.{chunks_rest}
 use Rattle.scan_kernels.specs.Segmented.{segmented_reduce}
 use Rattle.scan_kernels.proofs.CutLists.{segmented_reduce-lengths-append}
+use Rattle.scan_kernels.proofs.ResultLengths.{length-segmented_reduce}
 use Rattle.scan_kernels.proofs.reduce.reduce.Goals as goal
 
 pub loop-block-preserved : goal.loop-block-preserved
@@ -17,6 +18,7 @@ loop-block-preserved g c =
     let parts = steps.1.0 in
     let long = ap length parts ∙ length-append block later in
     let total = ap sum parts ∙ sum_by-append (λ n. n) block later in
+    let many = length-segmented_reduce op u block xs in
     let left = ap length c.reduce_block-rest.ensures.rest ∙ length-drop (sum block) xs in
     let whole = segmented_reduce-lengths-append op u block later xs in
     let joined = append_assoc c.loop-block.made.items (segmented_reduce op u block xs) (segmented_reduce op u later (drop (sum block) xs)) in
@@ -26,7 +28,7 @@ loop-block-preserved g c =
       within = omega arith;
       made =
           ap (λ ys. c.reduce_block-rest.new.made.items ++ segmented_reduce op u later ys) c.reduce_block-rest.ensures.rest
-          ∙ ap (λ made. made ++ segmented_reduce op u later (drop (sum block) xs)) c.reduce_block-rest.ensures.reduce
+          ∙ ap (λ made. made ++ segmented_reduce op u later (drop (sum block) xs)) c.reduce_block-rest.ensures.reduce.items
           ∙ joined
           ∙ ap (λ ys. c.loop-block.made.items ++ ys) (sym whole)
           ∙ ap (λ ls. c.loop-block.made.items ++ segmented_reduce op u ls xs) (sym parts)

@@ -10,5 +10,5 @@ invariant-loop-block g l = record {
   within : sum (chunks_rest l.block-iterator) ≤ length l.rest;
   made : l.made.items ++ segmented_reduce (g.O.Combine.combined l.op) (g.O.Combine.unit_of l.op) (chunks_rest l.block-iterator) l.rest
       ≡ segmented_reduce (g.O.Combine.combined l.op) (g.O.Combine.unit_of l.op) l.lengths l.items;
-  room : vec_len l.made + length (chunks_rest l.block-iterator) ≤ vec_capacity l.made;
+  room : vec_len l.made + length (chunks_rest l.block-iterator) ≡ vec_capacity l.made;
 }

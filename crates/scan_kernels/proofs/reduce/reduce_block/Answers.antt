@@ -1,4 +1,5 @@
-use Rattle.std.proofs.Common.{sum, length, drop, ap, sym, ◌∙◌, arith}
+use Rattle.std.proofs.Common.{sum, length, drop, map, ap, sym, ◌∙◌, arith}
+use Rattle.segment_desc.proofs.Appending.{appends_same}
 use Rattle.scan_kernels.proofs.OneItem.{all_ones, sum-ones, segmented_reduce-ones}
 use Rattle.scan_kernels.proofs.reduce.reduce_block.Goals as goal
 
@@ -14,7 +15,7 @@ returns-clause-reduce g c =
     let singles = c.are_single.ensures.0 c.if-not-are_single.false in
     let total = ap sum (all_ones ls singles) ∙ sum-ones (length ls) in
     let each = segmented_reduce-ones (g.O.Combine.combined c.args.op) (g.O.Combine.unit_of c.args.op) ls c.args.items.now singles (omega arith) in
-    cc
+    appends_same c.reduce_singles.ensures (ap (map (g.O.Combine.combined c.args.op (g.O.Combine.unit_of c.args.op))) c.split_at.ensures.front ∙ sym each)
 
 pub returns-clause-rest : goal.returns-clause-rest
 returns-clause-rest g c =

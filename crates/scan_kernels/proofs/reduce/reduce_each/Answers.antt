@@ -1,6 +1,5 @@
-use Rattle.std.proofs.Common.{arith, ◌∷◌, [], take, drop, sum, get_or, ap, ◌∙◌, append_assoc}
-use Rattle.std.specs.List.{fold}
-use Rattle.scan_kernels.specs.Segmented.{segmented_reduce}
+use Rattle.std.proofs.Common.{arith, rules, drop, get_or, ap, ◌∙◌}
+use Rattle.segment_desc.proofs.Appending.{appends_more}
 use Rattle.scan_kernels.proofs.NextSegment.{drop-take_more, segmented_reduce-take_more}
 use Rattle.scan_kernels.proofs.reduce.reduce_each.Goals as goal
 
@@ -11,12 +10,9 @@ loop-length-preserved g c =
     let xs = c.args.items.now in
     let ls = c.args.lengths.now in
     let i = c.loop-length.length-index in
-    let next = take (get_or ls i 0) (drop (sum (take i ls)) xs) in
     let more = segmented_reduce-take_more op u ls i xs c.loop-length-test.true in
-    let joined = append_assoc c.args.made.now.items (segmented_reduce op u (take i ls) xs) (fold op u next ∷ []) in
     record {
       rest = c.split_at.ensures.back ∙ ap (drop (get_or ls i 0)) c.loop-length.invariant.rest ∙ drop-take_more ls i xs c.loop-length-test.true;
-      made = cc;
+      made = appends_more c.loop-length.invariant.made (record { items = c.push_reserved.ensures.items; len = search rules; capacity = c.push_reserved.ensures.capacity }) cc;
       long = omega arith;
-      room = cc;
     }

@@ -1,4 +1,5 @@
-use Rattle.std.proofs.Common.{◌++◌, sum, length, drop, replicate, ap, sym, ◌∙◌, arith}
+use Rattle.std.proofs.Common.{sum, length, drop, replicate, ap, sym, ◌∙◌, arith}
+use Rattle.segment_desc.proofs.Appending.{appends_same}
 use Rattle.scan_kernels.proofs.OneItem.{all_ones, sum-ones, segmented_scan-ones}
 use Rattle.scan_kernels.proofs.scan.scan_block.Goals as goal
 
@@ -23,20 +24,12 @@ returns-clause-scan g c =
     let singles = c.are_single.ensures.0 c.if-not-are_single.false in
     let total = ap sum (all_ones ls singles) ∙ sum-ones (length ls) in
     let each = segmented_scan-ones op u ls c.args.items.now singles (omega arith) in
-    c.repeat.ensures.repeated
-    ∙ ap (λ n. c.args.made.now.items ++ replicate n c.unit.result) c.split_at.ensures.front_len
-    ∙ ap (λ x. c.args.made.now.items ++ replicate (length ls) x) c.unit.ensures
-    ∙ ap (λ ys. c.args.made.now.items ++ ys) (sym each)
+    let many = ap (λ n. replicate n c.unit.result) c.split_at.ensures.front_len in
+    let value = ap (λ x. replicate (length ls) x) c.unit.ensures in
+    appends_same c.repeat.ensures (many ∙ value ∙ sym each)
 
 pub returns-clause-rest : goal.returns-clause-rest
 returns-clause-rest g c =
     let ls = c.args.lengths.now in
     let total = ap sum (all_ones ls (c.are_single.ensures.0 c.if-not-are_single.false)) ∙ sum-ones (length ls) in
     c.split_at.ensures.back ∙ ap (λ n. drop n c.args.items.now) (sym total)
-
-pub returns-clause-long : goal.returns-clause-long
-returns-clause-long g c =
-    let ls = c.args.lengths.now in
-    let total = ap sum (all_ones ls (c.are_single.ensures.0 c.if-not-are_single.false)) ∙ sum-ones (length ls) in
-    let front = c.split_at.ensures.front_len in
-    omega arith

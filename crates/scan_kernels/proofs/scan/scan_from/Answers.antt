@@ -1,7 +1,6 @@
-use Rattle.std.proofs.Common.{arith, ◌∷◌, [], take, append_assoc}
-use Rattle.std.specs.List.{fold}
+use Rattle.std.proofs.Common.{arith, rules, take}
 use Rattle.std.proofs.lemmas.List.{take_more}
-use Rattle.scan_kernels.specs.Segmented.{scanned}
+use Rattle.segment_desc.proofs.Appending.{appends_more}
 use Rattle.scan_kernels.proofs.Scanned.{scanned_push, fold_push}
 use Rattle.scan_kernels.proofs.scan.scan_from.Goals as goal
 
@@ -15,5 +14,4 @@ loop-item-preserved g c =
     let more = take_more xs i x c.loop-item-test.true in
     let scan = scanned_push op u (take i xs) x in
     let value = fold_push op u (take i xs) x in
-    let joined = append_assoc c.args.made.now.items (scanned op u (take i xs)) (fold op u (take i xs) ∷ []) in
-    record { so_far = cc; made = cc; long = omega arith; room = cc }
+    record { so_far = cc; made = appends_more c.loop-item.invariant.made (record { items = c.push_reserved.ensures.items; len = search rules; capacity = c.push_reserved.ensures.capacity }) cc; long = omega arith }

@@ -12,6 +12,6 @@ loop-i-preserved g c =
       room = omega arith;
     }
 
-pub returns : goal.returns
-returns g c =
+pub returns-clause-items : goal.returns-clause-items
+returns-clause-items g c =
     c.loop-i.invariant.made ∙ take-zip_all (λ (p : Bool × (g.row.T.Denot × g.row.T.Denot)). if p.0 then p.1.0 else p.1.1) c.args.flags.now (zip c.args.a.now c.args.b.now) c.loop-i.i c.loop-i-test.false
