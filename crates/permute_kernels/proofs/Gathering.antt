@@ -1,6 +1,6 @@
--- Items that are read at the places of an index: `gathered_push` (one more item), `segmented_gather_more` (one more
+-- Items that are read at the places of an index: `gathered_more` (one more item), `segmented_gather_more` (one more
 -- segment), and which places the segments hold (`within_at`, `within_more`, `within_all`, `places_of_segment`).
-use Rattle.std.proofs.Common.{◌≡◌, ℕ, ◌+◌, ◌-◌, ◌<◌, ◌≤◌, List, [], ◌∷◌, ◌++◌, length, take, drop, sym, ap, subst, ◌∙◌, get_or, sum, zip, ℤ, pos, Some, All, append_assoc, arith}
+use Rattle.std.proofs.Common.{◌≡◌, ℕ, ◌+◌, ◌-◌, ◌<◌, ◌≤◌, List, [], ◌∷◌, ◌++◌, length, take, drop, sym, ap, subst, ◌∙◌, get_or, sum, zip, ℤ, pos, Some, All, arith}
 use Rattle.std.specs.List.{AllZip, cons_option, filter_map, flat_map}
 use Rattle.std.proofs.lemmas.List.{append-nil, length-take, take_all, take_more}
 use Rattle.std.proofs.lemmas.List.Concat.{flat_map-append}
@@ -29,21 +29,13 @@ module _ (ss ts : List ℕ) (j at : ℕ) (index : List ℤ) where
       subst (λ ns. LieWithin ns ts index) (take_all j ss (omega arith)) (subst (λ ns. LieWithin (take j ss) ns index) (take_all j ts past) within)
 
 module _ {X : Type 0} where
-  gathered_more : (index : List ℤ) (xs : List X) (i p : ℕ) (x : X) → i < length index → get_or index i (pos 0) ≡ pos p → p < length xs → x ≡ get_or xs p x → gathered (take (i + 1) index) xs ≡ gathered (take i index) xs ++ x ∷ []
+  pub gathered_more : (index : List ℤ) (xs : List X) (i p : ℕ) (x : X) → i < length index → get_or index i (pos 0) ≡ pos p → p < length xs → x ≡ get_or xs p x → gathered (take (i + 1) index) xs ≡ gathered (take i index) xs ++ x ∷ []
   gathered_more index xs i p x lt here within is =
       let z = get_or index i (pos 0) in
       let one : filter_map (item_at xs) (z ∷ []) ≡ x ∷ [] = ap (λ o. cons_option o []) (ap (item_at xs) here ∙ slice_get-get_or xs p x within ∙ ap Some (sym is)) in
       ap (filter_map (item_at xs)) (take_more index i (pos 0) lt)
       ∙ filter_map-append (item_at xs) (take i index) (z ∷ [])
       ∙ ap (λ l. gathered (take i index) xs ++ l) one
-
-  -- an item that is pushed behind those that were read before
-  pub gathered_push : (index : List ℤ) (xs before made after : List X) (i p : ℕ) (x : X) → i < length index → get_or index i (pos 0) ≡ pos p → p < length xs → x ≡ get_or xs p x → made ≡ before ++ gathered (take i index) xs → after ≡ made ++ x ∷ [] → after ≡ before ++ gathered (take (i + 1) index) xs
-  gathered_push index xs before made after i p x lt here within is so_far pushed =
-      pushed
-      ∙ ap (λ l. l ++ x ∷ []) so_far
-      ∙ append_assoc before (gathered (take i index) xs) (x ∷ [])
-      ∙ ap (λ l. before ++ l) (sym (gathered_more index xs i p x lt here within is))
 
   pub segmented_gather_more : (ss ts : List ℕ) (j from at : ℕ) (xs : List X) (index : List ℤ) → j < length ts → length ss ≡ length ts → from ≡ sum (take j ss) → at ≡ sum (take j ts)
       → segmented_gather (take (j + 1) ss) xs (take (j + 1) ts) index ≡ segmented_gather (take j ss) xs (take j ts) index ++ gathered (take (at + get_or ts j 0 - at) (drop at index)) (take (from + get_or ss j 0 - from) (drop from xs))

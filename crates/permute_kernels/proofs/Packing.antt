@@ -2,14 +2,15 @@
 -- more segment).
 use Rattle.std.proofs.Common.{◌≡◌, ℕ, ◌+◌, ◌-◌, ◌<◌, ◌≤◌, List, [], ◌∷◌, ◌++◌, length, set, take, drop, map, refl, sym, ap, ◌∙◌, get_or, sum, zip, pos, Bool, true, false, cond, add-zero, arith}
 use Rattle.std.specs.List.{filter}
-use Rattle.std.proofs.lemmas.List.{append-nil, length-take-le, map-append, take-set, take_all, take_more_set}
+use Rattle.std.proofs.lemmas.List.{append-nil, length-drop, length-take, length-take-le, map-append, take-append-drop, take-set, take_all, take_more_set}
 use Rattle.std.proofs.Math.Seq.{take-add}
 use Rattle.std.proofs.lemmas.List.Elements.{filter_more}
+use Rattle.std.proofs.lemmas.List.Sums.{sum_by-append}
 use Rattle.std.proofs.lemmas.Slice.Zip.{length-zip, get_or-zip}
 use mir.Val.{bool_byte}
 use Rattle.segment_desc.specs.Cut.{cut}
 use Rattle.permute_kernels.specs.Packed.{number_set, numbers_set, packed}
-use Rattle.permute_kernels.proofs.Joining.{packed-append}
+use Rattle.permute_kernels.proofs.Joining.{length-packed, packed-append}
 use Rattle.permute_kernels.proofs.Segments.{cut_more}
 
 -- what the first i pairs of a flag and an item keep
@@ -63,6 +64,22 @@ module _ {X : Type 0} (flags : List Bool) (xs : List X) (at end : ℕ) where
       ∙ ap (λ fs. packed fs (take at xs ++ take (end - at) (drop at xs))) (sym (take-add at (end - at) flags))
       ∙ ap (packed (take (at + (end - at)) flags)) (sym (take-add at (end - at) xs))
       ∙ ap (λ k. packed (take k flags) (take k xs)) (sym whole)
+
+  -- as many more flags are set as the block keeps items, and no more than there are
+  pub number_set_more : length flags ≡ length xs → at ≤ end → number_set (take end flags) ≡ number_set (take at flags) + length (packed (take (end - at) (drop at flags)) (take (end - at) (drop at xs)))
+  number_set_more same later =
+      let block = take (end - at) (drop at flags) in
+      let whole : end ≡ at + (end - at) = omega arith in
+      let long : length block ≡ length (take (end - at) (drop at xs)) = omega (arith, length-take (end - at) (drop at flags), length-drop at flags, length-take (end - at) (drop at xs), length-drop at xs) in
+      let kept = length-packed block (take (end - at) (drop at xs)) long in
+      ap (λ k. number_set (take k flags)) whole
+      ∙ ap number_set (take-add at (end - at) flags)
+      ∙ sum_by-append (λ b. cond b 1 0) (take at flags) block
+      ∙ ap (λ n. number_set (take at flags) + n) (sym kept)
+
+  pub number_set_within : number_set (take end flags) ≤ number_set flags
+  number_set_within =
+      omega (arith, ap number_set (take-append-drop end flags), sum_by-append (λ b. cond b 1 0) (take end flags) (drop end flags))
 
   pub packed_taken : length flags ≡ length xs → length xs ≤ at → packed (take at flags) (take at xs) ≡ packed flags xs
   packed_taken same past = ap (λ fs. packed fs (take at xs)) (take_all at flags (omega arith)) ∙ ap (packed flags) (take_all at xs past)

@@ -1,11 +1,12 @@
 //! Items read from the places that an index holds, segment by segment. Want of memory leaves the meter as it was.
 
-ghost use Rattle.std.specs.Prelude.{◌≡◌, ◌+◌, ◌≤◌, ◌++◌, length, sum, vec_len, vec_capacity, All, IfOk};
+ghost use Rattle.std.specs.Prelude.{◌≡◌, length, sum, IfOk};
+ghost use Rattle.segment_desc.specs.Appended.{IsExact};
 ghost use Rattle.scan_kernels.specs.Metering.{CountsRun};
-ghost use Rattle.permute_kernels.specs.Indices.{IsPlaceOf, LieWithin};
-ghost use Rattle.permute_kernels.specs.Gathered.{gathered, segmented_gather};
+ghost use Rattle.permute_kernels.specs.Indices.{LieWithin};
+ghost use Rattle.permute_kernels.specs.Gathered.{segmented_gather};
 
-use crate::place::place_of;
+use crate::gather::gather;
 use scan_kernels::Meter;
 use segment_desc::{OutOfMemory, Segd};
 use std::alloc::{AllocError, Global};
@@ -28,6 +29,7 @@ pub fn back_permute_z(
     requires counts { length source.now ≡ length by.now }
     requires within { LieWithin source.now by.now index.now }
     ensures gather { IfOk result (λ v. v.items ≡ segmented_gather source.now items.now by.now index.now) }
+    ensures exact { IfOk result (λ v. IsExact v) }
     ensures counted { CountsRun result meter.old meter.new }
 {
     let made = gather_each(alloc, items, source.lengths(), index, by.lengths())?;
@@ -50,6 +52,7 @@ pub fn back_permute_b(
     requires counts { length source.now ≡ length by.now }
     requires within { LieWithin source.now by.now index.now }
     ensures gather { IfOk result (λ v. v.items ≡ segmented_gather source.now flags.now by.now index.now) }
+    ensures exact { IfOk result (λ v. IsExact v) }
     ensures counted { CountsRun result meter.old meter.new }
 {
     let made = gather_each(alloc, flags, source.lengths(), index, by.lengths())?;
@@ -68,7 +71,8 @@ fn gather_each<T: Copy>(
     requires total { sum by.now ≡ length index.now }
     requires counts { length source.now ≡ length by.now }
     requires within { LieWithin source.now by.now index.now }
-    ensures { IfOk result (λ v. v.items ≡ segmented_gather source.now items.now by.now index.now) }
+    ensures items { IfOk result (λ v. v.items ≡ segmented_gather source.now items.now by.now index.now) }
+    ensures exact { IfOk result (λ v. IsExact v) }
 {
     let mut made = Vec::with_capacity(alloc, index.len())?;
     let mut from = 0;
@@ -81,17 +85,4 @@ fn gather_each<T: Copy>(
         at = end;
     }
     Ok(made)
-}
-
-#[inline(always)]
-fn gather<T: Copy>(items: &[T], index: &[i64], made: &mut Vec<T>)
-    requires within { All (IsPlaceOf (length items.now)) index.now }
-    requires room { vec_len made.old + length index.now ≤ vec_capacity made.old }
-    ensures gather { made.new.items ≡ made.old.items ++ gathered index.now items.now }
-    ensures long { vec_len made.new ≡ vec_len made.old + length index.now }
-    ensures capacity { vec_capacity made.new ≡ vec_capacity made.old }
-{
-    for &held in index {
-        made.push_reserved(items[place_of(held)]);
-    }
 }

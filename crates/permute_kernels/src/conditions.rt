@@ -79,7 +79,8 @@ fn each_within(index: &[i64], source: &[usize], by: &[usize]) -> bool
     true
 }
 
-fn are_places(index: &[i64], length: usize) -> bool
+/// Whether each index is a place of a list of so many items, as `gather_z` and `gather_b` ask. It takes no memory.
+pub fn are_places(index: &[i64], length: usize) -> bool
     ensures { IsTrue result ↔ All (IsPlaceOf length) index.now }
 {
     let mut each = true;

@@ -1,13 +1,14 @@
 //! Kernels that move items to other places, or leave items out (Blelloch, Vector Models for Data-Parallel Computing,
-//! 1990): permute, back permute and pack. Each gives its plain definition for every length and every segment list, and
+//! 1990): permute, back permute, gather and pack. Each gives its plain definition for every length and every segment list, and
 //! raises a meter by one.
 //!
-//! They take the runtime and the allocator first, then the meter. What they ask of an index is what `is_permutation` and
-//! `in_range` answer, word for word.
+//! They take the runtime and the allocator first, then the meter. What they ask of an index is what `is_permutation`,
+//! `in_range` and `are_places` answer, word for word.
 #![tactic(auto)]
 
 mod back_permute;
 mod conditions;
+mod gather;
 pub mod laws;
 mod pack;
 mod permute;
@@ -16,6 +17,7 @@ mod place;
 mod tests;
 
 pub use back_permute::{back_permute_b, back_permute_z};
-pub use conditions::{in_range, is_permutation};
+pub use conditions::{are_places, in_range, is_permutation};
+pub use gather::{gather_b, gather_z};
 pub use pack::{pack_b, pack_z, packed_lengths};
 pub use permute::{permute_b, permute_z};

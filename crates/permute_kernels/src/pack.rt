@@ -1,11 +1,12 @@
 //! Items kept by a flag, and how many each segment keeps. Want of memory leaves the meter as it was.
 
 ghost use Rattle.std.specs.Prelude.{◌≡◌, ◌<◌, ◌≤◌, ◌^◌, ◌+◌, length, take, sum, IfOk};
+ghost use Rattle.segment_desc.specs.Appended.{IsExact};
 ghost use Rattle.scan_kernels.specs.Metering.{CountsRun};
 ghost use Rattle.permute_kernels.specs.Packed.{number_set, numbers_set, packed};
 
 use scan_kernels::Meter;
-use segment_desc::{OutOfMemory, Segd};
+use segment_desc::{OutOfMemory, Segd, append_reserved};
 use std::alloc::{AllocError, Global};
 use std::thread::Threads;
 
@@ -23,6 +24,7 @@ pub fn pack_z(
 ) -> Result<Vec<i64>, OutOfMemory>
     requires { length flags.now ≡ length items.now }
     ensures pack { IfOk result (λ v. v.items ≡ packed flags.now items.now) }
+    ensures exact { IfOk result (λ v. IsExact v) }
     ensures counted { CountsRun result meter.old meter.new }
 {
     let made = kept(alloc, items, flags, &mut [0; BLOCK])?;
@@ -40,6 +42,7 @@ pub fn pack_b(
 ) -> Result<Vec<bool>, OutOfMemory>
     requires { length flags.now ≡ length truths.now }
     ensures pack { IfOk result (λ v. v.items ≡ packed flags.now truths.now) }
+    ensures exact { IfOk result (λ v. IsExact v) }
     ensures counted { CountsRun result meter.old meter.new }
 {
     let made = kept(alloc, truths, flags, &mut [false; BLOCK])?;
@@ -57,6 +60,7 @@ pub fn packed_lengths(
 ) -> Result<Vec<i64>, OutOfMemory>
     requires { sum segments.now ≡ length flags.now }
     ensures lengths { IfOk result (λ v. v.items ≡ numbers_set segments.now flags.now) }
+    ensures exact { IfOk result (λ v. IsExact v) }
     ensures counted { CountsRun result meter.old meter.new }
 {
     let made = count_each(alloc, flags, segments.lengths())?;
@@ -74,14 +78,15 @@ fn kept<T: Copy>(
 ) -> Result<Vec<T>, AllocError>
     requires same_length { length flags.now ≡ length items.now }
     requires room { length buffer.old ≡ 128 }
-    ensures { IfOk result (λ v. v.items ≡ packed flags.now items.now) }
+    ensures items { IfOk result (λ v. v.items ≡ packed flags.now items.now) }
+    ensures exact { IfOk result (λ v. IsExact v) }
 {
     let mut made = Vec::with_capacity(alloc, count_set(flags))?;
     let mut at = 0;
     while at < items.len() {
         let end = block_end(at, items.len());
         let many = compress(&items[at..end], &flags[at..end], buffer);
-        made.extend_from_slice(&buffer[..many])?;
+        append_reserved(&buffer[..many], &mut made);
         at = end;
     }
     Ok(made)
@@ -119,7 +124,8 @@ fn compress<T: Copy>(items: &[T], flags: &[bool], buffer: &mut [T]) -> usize
 fn count_each(alloc: Global, flags: &[bool], lengths: &[usize]) -> Result<Vec<i64>, AllocError>
     requires total { sum lengths.now ≡ length flags.now }
     requires small { length flags.now < 2 ^ 63 }
-    ensures { IfOk result (λ v. v.items ≡ numbers_set lengths.now flags.now) }
+    ensures items { IfOk result (λ v. v.items ≡ numbers_set lengths.now flags.now) }
+    ensures exact { IfOk result (λ v. IsExact v) }
 {
     let mut made = Vec::with_capacity(alloc, lengths.len())?;
     let mut at = 0;

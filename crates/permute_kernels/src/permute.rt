@@ -1,13 +1,14 @@
 //! Items moved to the places that an index holds, segment by segment. Want of memory leaves the meter as it was.
 
 ghost use Rattle.std.specs.Prelude.{◌≡◌, length, sum, IfOk};
+ghost use Rattle.segment_desc.specs.Appended.{IsExact};
 ghost use Rattle.scan_kernels.specs.Metering.{CountsRun};
 ghost use Rattle.permute_kernels.specs.Indices.{HoldsEachPlaceOnce, PermuteSegments};
 ghost use Rattle.permute_kernels.specs.Permuted.{IsPermuted, IsPermutedBySegments, segmented_permute};
 
 use crate::place::place_of;
 use scan_kernels::Meter;
-use segment_desc::{OutOfMemory, Segd};
+use segment_desc::{OutOfMemory, Segd, append_reserved};
 use std::alloc::{AllocError, Global};
 use std::thread::Threads;
 
@@ -27,6 +28,7 @@ pub fn permute_z(
     requires permutation { PermuteSegments segments.now index.now }
     ensures permute { IfOk result (λ v. v.items ≡ segmented_permute segments.now index.now items.now) }
     ensures places { IfOk result (λ v. IsPermutedBySegments segments.now index.now items.now v.items) }
+    ensures exact { IfOk result (λ v. IsExact v) }
     ensures counted { CountsRun result meter.old meter.new }
 {
     let made = permuted(alloc, items, index, segments.lengths())?;
@@ -48,6 +50,7 @@ pub fn permute_b(
     requires permutation { PermuteSegments segments.now index.now }
     ensures permute { IfOk result (λ v. v.items ≡ segmented_permute segments.now index.now flags.now) }
     ensures places { IfOk result (λ v. IsPermutedBySegments segments.now index.now flags.now v.items) }
+    ensures exact { IfOk result (λ v. IsExact v) }
     ensures counted { CountsRun result meter.old meter.new }
 {
     let made = permuted(alloc, flags, index, segments.lengths())?;
@@ -66,8 +69,10 @@ fn permuted<T: Copy>(
     requires permutation { PermuteSegments lengths.now index.now }
     ensures permute { IfOk result (λ v. v.items ≡ segmented_permute lengths.now index.now items.now) }
     ensures places { IfOk result (λ v. IsPermutedBySegments lengths.now index.now items.now v.items) }
+    ensures exact { IfOk result (λ v. IsExact v) }
 {
-    let mut made = Vec::from_slice(alloc, items)?;
+    let mut made = Vec::with_capacity(alloc, items.len())?;
+    append_reserved(items, &mut made);
     scatter_each(items, index, lengths, made.as_mut_slice());
     Ok(made)
 }

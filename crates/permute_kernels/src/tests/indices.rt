@@ -1,7 +1,7 @@
 //! The tests of indices.
 
 use super::cut;
-use crate::{in_range, is_permutation};
+use crate::{are_places, in_range, is_permutation};
 use segment_desc::OutOfMemory;
 use std::alloc::Global;
 use std::process::Abort;
@@ -45,4 +45,13 @@ fn tells_indices_in_range(rt: HostRuntime) -> Result<(), Fail> {
     assert!(rt; by.total() == 1);
     assert!(rt; !in_range(&[0], &source, &by));
     Ok(())
+}
+
+#[test]
+fn tells_places(rt: HostRuntime) {
+    assert!(rt; are_places(&[2, 2, 0, 1], 3));
+    assert!(rt; are_places(&[], 0));
+    assert!(rt; !are_places(&[0, 3], 3));
+    assert!(rt; !are_places(&[-1], 3));
+    assert!(rt; !are_places(&[0], 0));
 }

@@ -1,7 +1,10 @@
 //! Permutes and back permutes, of one segment and of several.
 
 use super::cut;
-use crate::{back_permute_b, back_permute_z, in_range, is_permutation, permute_b, permute_z};
+use crate::{
+    are_places, back_permute_b, back_permute_z, gather_b, gather_z, in_range, is_permutation,
+    permute_b, permute_z,
+};
 use scan_kernels::Meter;
 use std::alloc::Global;
 use std::process::Abort;
@@ -125,5 +128,24 @@ fn reads_truth_values(rt: HostRuntime) -> Result<(), Fail> {
     .map_err(|_| "refused")?;
     assert_eq!(rt; made.as_slice(), [false, false].as_slice());
     assert_eq!(rt; meter.runs(), 1);
+    Ok(())
+}
+
+#[test]
+fn gathers_from_one_list(rt: HostRuntime) -> Result<(), Fail> {
+    let mut meter = Meter::new();
+    let (items, index) = ([10, 20, 30], [2, 2, 0, 1]);
+    assert!(rt; are_places(&index, items.len()));
+    let made = gather_z(&rt, rt.alloc(), &mut meter, &items, &index);
+    assert!(rt; made.is_ok_and(|made| made.as_slice() == [30i64, 30, 10, 20].as_slice()));
+    assert_eq!(rt; meter.runs(), 1);
+    let flags = [true, false, false];
+    assert!(rt; are_places(&index, flags.len()));
+    let made = gather_b(&rt, rt.alloc(), &mut meter, &flags, &index);
+    assert!(rt; made.is_ok_and(|made| made.as_slice() == [false, false, true, false].as_slice()));
+    assert!(rt; are_places(&[], 0));
+    let made = gather_z(&rt, rt.alloc(), &mut meter, &[], &[]);
+    assert!(rt; made.is_ok_and(|made| made.is_empty()));
+    assert_eq!(rt; meter.runs(), 3);
     Ok(())
 }

@@ -3,6 +3,7 @@ use Rattle.scan_kernels.proofs.NextSegment.{sum-take_more}
 use Rattle.permute_kernels.specs.Gathered.{gathered}
 use Rattle.permute_kernels.proofs.Gathering.{places_of_segment, segmented_gather_more}
 use Rattle.permute_kernels.proofs.Segments.{length_segment}
+use Rattle.permute_kernels.proofs.UndoneMoves.{length-gathered}
 use Rattle.permute_kernels.proofs.back_permute.gather_each.Goals as goal
 
 pub gather-requires-clause-within : goal.gather-requires-clause-within
@@ -21,10 +22,12 @@ loop-j-preserved g c =
     let begun = sum-take_more ss j (omega arith) in
     let total = sum-take_more ts j c.loop-j-test.true in
     let long = length_segment ts j at c.args.index.now c.loop-j-test.true c.loop-j.invariant.place c.requires.total in
+    let within = places_of_segment ss ts j from at c.args.items.now c.args.index.now c.loop-j-test.true c.requires.counts c.loop-j.invariant.begins c.loop-j.invariant.place c.requires.source_total c.requires.within in
+    let many = length-gathered (take (from + get_or ss j 0 - from) (drop from c.args.items.now)) (take (at + get_or ts j 0 - at) (drop at c.args.index.now)) within in
     record {
       begins = omega arith;
       place = omega arith;
-      made = c.gather.ensures.gather ∙ ap (λ l. l ++ read) c.loop-j.invariant.made ∙ sym more;
+      made = c.gather.ensures.items ∙ ap (λ l. l ++ read) c.loop-j.invariant.made ∙ sym more;
       long = omega arith;
       room = omega arith;
     }

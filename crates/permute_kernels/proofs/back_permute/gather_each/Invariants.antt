@@ -1,4 +1,4 @@
-use Rattle.std.proofs.Common.{◌≡◌, ◌≤◌, length, take, sum, vec_len, vec_capacity}
+use Rattle.std.proofs.Common.{◌≡◌, length, take, sum, vec_len, vec_capacity}
 use Rattle.permute_kernels.specs.Gathered.{segmented_gather}
 use Rattle.permute_kernels.proofs.back_permute.gather_each.Given as goal
 
@@ -8,5 +8,5 @@ invariant-loop-j g l = record {
   place : l.at ≡ sum (take l.j l.by);
   made : l.made.items ≡ segmented_gather (take l.j l.source) l.items (take l.j l.by) l.index;
   long : vec_len l.made ≡ l.at;
-  room : length l.index ≤ vec_capacity l.made;
+  room : vec_capacity l.made ≡ length l.index;
 }

@@ -1,4 +1,4 @@
-use Rattle.std.proofs.Common.{◌≡◌, ◌≤◌, length, take, sum, vec_len, vec_capacity}
+use Rattle.std.proofs.Common.{◌≡◌, length, take, sum, vec_len, vec_capacity}
 use Rattle.permute_kernels.specs.Packed.{numbers_set}
 use Rattle.permute_kernels.proofs.pack.count_each.Given as goal
 
@@ -7,5 +7,5 @@ invariant-loop-length l = record {
   place : l.at ≡ sum (take l.length-index l.lengths);
   made : l.made.items ≡ numbers_set (take l.length-index l.lengths) l.flags;
   long : vec_len l.made ≡ l.length-index;
-  room : length l.lengths ≤ vec_capacity l.made;
+  room : vec_capacity l.made ≡ length l.lengths;
 }
