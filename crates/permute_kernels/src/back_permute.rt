@@ -7,16 +7,15 @@ ghost use Rattle.permute_kernels.specs.Indices.{LieWithin};
 ghost use Rattle.permute_kernels.specs.Gathered.{segmented_gather};
 
 use crate::gather::gather;
-use scan_kernels::Meter;
+use scan_kernels::{Execution, Meter};
 use segment_desc::{OutOfMemory, Segd};
 use std::alloc::{AllocError, Global};
-use std::thread::Threads;
 
 /// For each index in order the integer at its place, in one pass into a vector of its final size. Segment j of the index,
 /// by the lengths `by`, holds places of segment j of the integers, by the lengths `source`, as `in_range` tells. The
 /// segments are as many on both sides, and have the integers and the indices all together.
 pub fn back_permute_z(
-    _rt: &(impl Threads + Sync),
+    _execution: &impl Execution,
     alloc: Global,
     meter: &mut Meter,
     items: &[i64],
@@ -39,7 +38,7 @@ pub fn back_permute_z(
 
 /// The same for truth values.
 pub fn back_permute_b(
-    _rt: &(impl Threads + Sync),
+    _execution: &impl Execution,
     alloc: Global,
     meter: &mut Meter,
     flags: &[bool],
@@ -60,7 +59,7 @@ pub fn back_permute_b(
     Ok(made)
 }
 
-fn gather_each<T: Copy>(
+fn gather_each<T: Copy + Send + Sync>(
     alloc: Global,
     items: &[T],
     source: &[usize],

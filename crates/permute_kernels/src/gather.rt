@@ -7,15 +7,14 @@ ghost use Rattle.permute_kernels.specs.Indices.{IsPlaceOf};
 ghost use Rattle.permute_kernels.specs.Gathered.{gathered};
 
 use crate::place::place_of;
-use scan_kernels::Meter;
+use scan_kernels::{Execution, Meter};
 use segment_desc::OutOfMemory;
 use std::alloc::{AllocError, Global};
-use std::thread::Threads;
 
 /// For each index in order the integer at its place, in one pass into a vector of its final size. Each index is a place of
 /// the integers, as `are_places` tells.
 pub fn gather_z(
-    _rt: &(impl Threads + Sync),
+    _execution: &impl Execution,
     alloc: Global,
     meter: &mut Meter,
     items: &[i64],
@@ -33,7 +32,7 @@ pub fn gather_z(
 
 /// The same for truth values.
 pub fn gather_b(
-    _rt: &(impl Threads + Sync),
+    _execution: &impl Execution,
     alloc: Global,
     meter: &mut Meter,
     flags: &[bool],
@@ -49,7 +48,11 @@ pub fn gather_b(
     Ok(made)
 }
 
-fn gathered<T: Copy>(alloc: Global, items: &[T], index: &[i64]) -> Result<Vec<T>, AllocError>
+fn gathered<T: Copy + Send + Sync>(
+    alloc: Global,
+    items: &[T],
+    index: &[i64],
+) -> Result<Vec<T>, AllocError>
     requires { All (IsPlaceOf (length items.now)) index.now }
     ensures items { IfOk result (λ v. v.items ≡ gathered index.now items.now) }
     ensures exact { IfOk result (λ v. IsExact v) }
@@ -61,7 +64,7 @@ fn gathered<T: Copy>(alloc: Global, items: &[T], index: &[i64]) -> Result<Vec<T>
 
 /// Puts the item at the place of each index behind the others, in order.
 #[inline(always)]
-pub fn gather<T: Copy>(items: &[T], index: &[i64], made: &mut Vec<T>)
+pub fn gather<T: Copy + Send + Sync>(items: &[T], index: &[i64], made: &mut Vec<T>)
     requires within { All (IsPlaceOf (length items.now)) index.now }
     requires room { vec_len made.old + length index.now ≤ vec_capacity made.old }
     ensures { Appends made.old made.new (gathered index.now items.now) }

@@ -2,7 +2,7 @@
 //! 1990): permute, back permute, gather and pack. Each gives its plain definition for every length and every segment list, and
 //! raises a meter by one.
 //!
-//! They take the runtime and the allocator first, then the meter. What they ask of an index is what `is_permutation`,
+//! They take an execution policy and the allocator first, then the meter. What they ask of an index is what `is_permutation`,
 //! `in_range` and `are_places` answer, word for word.
 #![tactic(auto)]
 

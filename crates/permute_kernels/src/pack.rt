@@ -5,10 +5,9 @@ ghost use Rattle.segment_desc.specs.Appended.{IsExact};
 ghost use Rattle.scan_kernels.specs.Metering.{CountsRun};
 ghost use Rattle.permute_kernels.specs.Packed.{number_set, numbers_set, packed};
 
-use scan_kernels::Meter;
+use scan_kernels::{Execution, Meter};
 use segment_desc::{OutOfMemory, Segd, append_reserved};
 use std::alloc::{AllocError, Global};
-use std::thread::Threads;
 
 /// Items are packed, and their flags counted by a byte, so many at a time.
 const BLOCK: usize = 128;
@@ -16,7 +15,7 @@ const BLOCK: usize = 128;
 /// The integers whose flag is set, in order. There are as many flags as integers. A pass that counts the flags, and one
 /// into a vector of the final size.
 pub fn pack_z(
-    _rt: &(impl Threads + Sync),
+    _execution: &impl Execution,
     alloc: Global,
     meter: &mut Meter,
     items: &[i64],
@@ -34,7 +33,7 @@ pub fn pack_z(
 
 /// The same for truth values.
 pub fn pack_b(
-    _rt: &(impl Threads + Sync),
+    _execution: &impl Execution,
     alloc: Global,
     meter: &mut Meter,
     truths: &[bool],
@@ -52,7 +51,7 @@ pub fn pack_b(
 
 /// How many flags are set in each segment, in one pass. The segments have all the flags together.
 pub fn packed_lengths(
-    _rt: &(impl Threads + Sync),
+    _execution: &impl Execution,
     alloc: Global,
     meter: &mut Meter,
     flags: &[bool],
@@ -70,7 +69,7 @@ pub fn packed_lengths(
 
 // Block by block, through a buffer that stays near.
 #[inline(always)]
-fn kept<T: Copy>(
+fn kept<T: Copy + Send + Sync>(
     alloc: Global,
     items: &[T],
     flags: &[bool],
@@ -107,7 +106,7 @@ fn block_end(at: usize, length: usize) -> usize
 
 // Each item is written, and the next one over it unless its flag is set, so that the loop has no branch.
 #[inline(always)]
-fn compress<T: Copy>(items: &[T], flags: &[bool], buffer: &mut [T]) -> usize
+fn compress<T: Copy + Send + Sync>(items: &[T], flags: &[bool], buffer: &mut [T]) -> usize
     requires same_length { length flags.now ≡ length items.now }
     requires room { length items.now ≤ length buffer.old }
     ensures kept { take result buffer.new ≡ packed flags.now items.now }

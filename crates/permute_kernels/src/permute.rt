@@ -7,16 +7,15 @@ ghost use Rattle.permute_kernels.specs.Indices.{HoldsEachPlaceOnce, PermuteSegme
 ghost use Rattle.permute_kernels.specs.Permuted.{IsPermuted, IsPermutedBySegments, segmented_permute};
 
 use crate::place::place_of;
-use scan_kernels::Meter;
+use scan_kernels::{Execution, Meter};
 use segment_desc::{OutOfMemory, Segd, append_reserved};
 use std::alloc::{AllocError, Global};
-use std::thread::Threads;
 
 /// In each segment, the integer at place i goes to the place that the index holds at i. There are as many indices as
 /// integers, the segments have them all together, and each segment of the index holds each of its places once, as
 /// `is_permutation` tells. A copy, and one pass that writes over it.
 pub fn permute_z(
-    _rt: &(impl Threads + Sync),
+    _execution: &impl Execution,
     alloc: Global,
     meter: &mut Meter,
     items: &[i64],
@@ -38,7 +37,7 @@ pub fn permute_z(
 
 /// The same for truth values.
 pub fn permute_b(
-    _rt: &(impl Threads + Sync),
+    _execution: &impl Execution,
     alloc: Global,
     meter: &mut Meter,
     flags: &[bool],
@@ -58,7 +57,7 @@ pub fn permute_b(
     Ok(made)
 }
 
-fn permuted<T: Copy>(
+fn permuted<T: Copy + Send + Sync>(
     alloc: Global,
     items: &[T],
     index: &[i64],
@@ -77,7 +76,12 @@ fn permuted<T: Copy>(
     Ok(made)
 }
 
-fn scatter_each<T: Copy>(items: &[T], index: &[i64], lengths: &[usize], made: &mut [T])
+fn scatter_each<T: Copy + Send + Sync>(
+    items: &[T],
+    index: &[i64],
+    lengths: &[usize],
+    made: &mut [T],
+)
     requires same_length { length index.now ≡ length items.now }
     requires room { length made.old ≡ length items.now }
     requires total { sum lengths.now ≡ length index.now }
@@ -94,7 +98,7 @@ fn scatter_each<T: Copy>(items: &[T], index: &[i64], lengths: &[usize], made: &m
 }
 
 #[inline(always)]
-fn scatter<T: Copy>(items: &[T], index: &[i64], made: &mut [T])
+fn scatter<T: Copy + Send + Sync>(items: &[T], index: &[i64], made: &mut [T])
     requires same_length { length index.now ≡ length items.now }
     requires room { length made.old ≡ length items.now }
     requires each_once { HoldsEachPlaceOnce index.now }

@@ -3,8 +3,9 @@ ghost use Rattle.scan_kernels.specs.IntegerScans.{combine_z, unit_z};
 ghost use Rattle.scan_kernels.specs.BooleanScans.{combine_b, unit_b};
 
 /// An operation that scans and reduces: it makes one item of two, and its unit of none.
-pub trait Combine: Copy {
-    type Item: Copy;
+pub trait Combine: Copy + Send + Sync {
+    /// What it combines.
+    type Item: Copy + Send + Sync;
 
     /// What the operation makes of two items.
     ghost combined: { Self → Self.Item → Self.Item → Self.Item };

@@ -6,16 +6,16 @@ ghost use Rattle.scan_kernels.specs.IntegerOps.{compares};
 ghost use Rattle.scan_kernels.specs.Elementwise.{item_by_item};
 ghost use Rattle.scan_kernels.specs.Metering.{CountsRun};
 
+use crate::execution::Execution;
 use crate::meter::Meter;
 use crate::operation::Cmp;
 use segment_desc::OutOfMemory;
 use std::alloc::{AllocError, Global};
-use std::thread::Threads;
 
 /// Whether the comparison holds of the two integers at each place of two vectors of one length, in one pass into a vector
 /// of its final size.
 pub fn compare2(
-    _rt: &(impl Threads + Sync),
+    _execution: &impl Execution,
     alloc: Global,
     meter: &mut Meter,
     op: Cmp,

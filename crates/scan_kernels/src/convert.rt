@@ -5,14 +5,14 @@ ghost use Rattle.segment_desc.specs.Appended.{IsExact};
 ghost use Rattle.scan_kernels.specs.Elementwise.{as_number, is_true};
 ghost use Rattle.scan_kernels.specs.Metering.{CountsRun};
 
+use crate::execution::Execution;
 use crate::meter::Meter;
 use segment_desc::OutOfMemory;
 use std::alloc::{AllocError, Global};
-use std::thread::Threads;
 
 /// True for each integer that is not 0, in one pass into a vector of its final size.
 pub fn truth(
-    _rt: &(impl Threads + Sync),
+    _execution: &impl Execution,
     alloc: Global,
     meter: &mut Meter,
     a: &[i64],
@@ -45,7 +45,7 @@ fn is_true(x: i64) -> bool
 
 /// 1 for each truth value that is true and 0 for the others, in one pass into a vector of its final size.
 pub fn number(
-    _rt: &(impl Threads + Sync),
+    _execution: &impl Execution,
     alloc: Global,
     meter: &mut Meter,
     a: &[bool],

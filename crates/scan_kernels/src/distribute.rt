@@ -5,17 +5,17 @@ ghost use Rattle.segment_desc.specs.Appended.{Appends, IsExact};
 ghost use Rattle.scan_kernels.specs.Distributed.{distributed};
 ghost use Rattle.scan_kernels.specs.Metering.{CountsRun};
 
+use crate::execution::Execution;
 use crate::fill::repeat;
 use crate::meter::Meter;
 use crate::singles::{BLOCK, are_single};
 use segment_desc::{OutOfMemory, Segd, append_reserved};
 use std::alloc::{AllocError, Global};
-use std::thread::Threads;
 
 /// Integer j as often as segment j is long, in one pass into a vector of its final size. There are as many integers as
 /// segments.
 pub fn distribute_z(
-    _rt: &(impl Threads + Sync),
+    _execution: &impl Execution,
     alloc: Global,
     meter: &mut Meter,
     values: &[i64],
@@ -34,7 +34,7 @@ pub fn distribute_z(
 /// Truth value j as often as segment j is long, in one pass into a vector of its final size. There are as many truth
 /// values as segments.
 pub fn distribute_b(
-    _rt: &(impl Threads + Sync),
+    _execution: &impl Execution,
     alloc: Global,
     meter: &mut Meter,
     flags: &[bool],
@@ -50,7 +50,7 @@ pub fn distribute_b(
     Ok(made)
 }
 
-fn distribute<T: Copy>(
+fn distribute<T: Copy + Send + Sync>(
     alloc: Global,
     values: &[T],
     lengths: &[usize],
@@ -72,7 +72,7 @@ fn distribute<T: Copy>(
 }
 
 #[inline(always)]
-fn distribute_block<T: Copy>(values: &[T], lengths: &[usize], made: &mut Vec<T>)
+fn distribute_block<T: Copy + Send + Sync>(values: &[T], lengths: &[usize], made: &mut Vec<T>)
     requires count { length lengths.now ≡ length values.now }
     requires room { vec_len made.old + sum lengths.now ≤ vec_capacity made.old }
     ensures { Appends made.old made.new (distributed lengths.now values.now) }
@@ -85,7 +85,7 @@ fn distribute_block<T: Copy>(values: &[T], lengths: &[usize], made: &mut Vec<T>)
 }
 
 #[inline(always)]
-fn distribute_each<T: Copy>(values: &[T], lengths: &[usize], made: &mut Vec<T>)
+fn distribute_each<T: Copy + Send + Sync>(values: &[T], lengths: &[usize], made: &mut Vec<T>)
     requires count { length lengths.now ≡ length values.now }
     requires room { vec_len made.old + sum lengths.now ≤ vec_capacity made.old }
     ensures { Appends made.old made.new (distributed lengths.now values.now) }

@@ -7,16 +7,16 @@ ghost use Rattle.segment_desc.specs.Appended.{Appends, IsExact};
 ghost use Rattle.scan_kernels.specs.Indexed.{indexed, item_at, segmented_index};
 ghost use Rattle.scan_kernels.specs.Metering.{CountsRun};
 
+use crate::execution::Execution;
 use crate::meter::Meter;
 use crate::singles::{BLOCK, are_single};
 use segment_desc::{OutOfMemory, Segd};
 use std::alloc::{AllocError, Global};
-use std::thread::Threads;
 
 /// In segment j the integers from start j on by stride j, which wrap, in one pass into a vector of its final size. There
 /// are as many starts, and as many strides, as segments.
 pub fn index(
-    _rt: &(impl Threads + Sync),
+    _execution: &impl Execution,
     alloc: Global,
     meter: &mut Meter,
     starts: &[i64],

@@ -10,15 +10,15 @@ ghost use Rattle.scan_kernels.specs.BooleanOps.{alter_b, apply_b};
 ghost use Rattle.scan_kernels.specs.Elementwise.{item_by_item};
 ghost use Rattle.scan_kernels.specs.Metering.{CountsRun};
 
+use crate::execution::Execution;
 use crate::meter::Meter;
 use crate::operation::{B1, B2, Z1, Z2};
 use segment_desc::OutOfMemory;
 use std::alloc::{AllocError, Global};
-use std::thread::Threads;
 
 /// The operation on each integer, in one pass into a vector of its final size.
 pub fn map1_z(
-    _rt: &(impl Threads + Sync),
+    _execution: &impl Execution,
     alloc: Global,
     meter: &mut Meter,
     op: Z1,
@@ -50,7 +50,7 @@ fn altered_z(alloc: Global, op: Z1, a: &[i64]) -> Result<Vec<i64>, AllocError>
 
 /// The operation on each truth value, in one pass into a vector of its final size.
 pub fn map1_b(
-    _rt: &(impl Threads + Sync),
+    _execution: &impl Execution,
     alloc: Global,
     meter: &mut Meter,
     op: B1,
@@ -83,7 +83,7 @@ fn altered_b(alloc: Global, op: B1, a: &[bool]) -> Result<Vec<bool>, AllocError>
 /// The operation on the two integers at each place of two vectors of one length, in one pass into a vector of its final
 /// size. `Div` and `Mod` ask for `divisors_ok` of the second vector, `Lsh` and `Rsh` for `shifts_ok`.
 pub fn map2_z(
-    _rt: &(impl Threads + Sync),
+    _execution: &impl Execution,
     alloc: Global,
     meter: &mut Meter,
     op: Z2,
@@ -140,7 +140,7 @@ fn applied_z(alloc: Global, op: Z2, a: &[i64], b: &[i64]) -> Result<Vec<i64>, Al
 /// The operation on the two truth values at each place of two vectors of one length, in one pass into a vector of its
 /// final size.
 pub fn map2_b(
-    _rt: &(impl Threads + Sync),
+    _execution: &impl Execution,
     alloc: Global,
     meter: &mut Meter,
     op: B2,

@@ -11,16 +11,16 @@ ghost use Rattle.scan_kernels.specs.BooleanScans.{combine_b, unit_b};
 ghost use Rattle.scan_kernels.specs.Metering.{CountsRun};
 
 use crate::combine::{Combine, ScanB, ScanZ};
+use crate::execution::Execution;
 use crate::meter::Meter;
 use crate::singles::{BLOCK, are_single};
 use segment_desc::{OutOfMemory, Segd};
 use std::alloc::{AllocError, Global};
-use std::thread::Threads;
 
 /// What the operation makes of each segment of integers, in one pass into a vector with one item for each segment. The
 /// segments have all the items together.
 pub fn reduce_z(
-    _rt: &(impl Threads + Sync),
+    _execution: &impl Execution,
     alloc: Global,
     meter: &mut Meter,
     op: ScanZ,
@@ -49,7 +49,7 @@ pub fn reduce_z(
 /// What the operation makes of each segment of truth values, in one pass into a vector with one item for each segment. The
 /// segments have all the items together.
 pub fn reduce_b(
-    _rt: &(impl Threads + Sync),
+    _execution: &impl Execution,
     alloc: Global,
     meter: &mut Meter,
     op: ScanB,
@@ -113,7 +113,7 @@ fn reduce_block<'a, O: Combine>(
 
 #[inline(always)]
 fn reduce_singles<O: Combine>(op: O, items: &[O::Item], made: &mut Vec<O::Item>)
-    requires { vec_len made.old + length items.now ≤ vec_capacity made.old }
+    requires room { vec_len made.old + length items.now ≤ vec_capacity made.old }
     ensures { Appends made.old made.new (map (O.combined op (O.unit_of op)) items.now) }
 {
     for &item in items {

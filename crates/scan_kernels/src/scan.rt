@@ -11,17 +11,17 @@ ghost use Rattle.scan_kernels.specs.BooleanScans.{combine_b, unit_b};
 ghost use Rattle.scan_kernels.specs.Metering.{CountsRun};
 
 use crate::combine::{Combine, ScanB, ScanZ};
+use crate::execution::Execution;
 use crate::fill::repeat;
 use crate::meter::Meter;
 use crate::singles::{BLOCK, are_single};
 use segment_desc::{OutOfMemory, Segd};
 use std::alloc::{AllocError, Global};
-use std::thread::Threads;
 
 /// The exclusive scan of each segment of integers, in one pass into a vector of its final size. The segments have all the
 /// items together.
 pub fn scan_z(
-    _rt: &(impl Threads + Sync),
+    _execution: &impl Execution,
     alloc: Global,
     meter: &mut Meter,
     op: ScanZ,
@@ -50,7 +50,7 @@ pub fn scan_z(
 /// The exclusive scan of each segment of truth values, in one pass into a vector of its final size. The segments have all
 /// the items together.
 pub fn scan_b(
-    _rt: &(impl Threads + Sync),
+    _execution: &impl Execution,
     alloc: Global,
     meter: &mut Meter,
     op: ScanB,
@@ -135,7 +135,7 @@ fn scan_each<'a, O: Combine>(
 
 #[inline(always)]
 fn scan_segment<O: Combine>(op: O, items: &[O::Item], made: &mut Vec<O::Item>)
-    requires { vec_len made.old + length items.now ≤ vec_capacity made.old }
+    requires room { vec_len made.old + length items.now ≤ vec_capacity made.old }
     ensures { Appends made.old made.new (scanned (O.combined op) (O.unit_of op) items.now) }
 {
     let (fours, rest) = items.split_at(items.len() - items.len() % 4);
@@ -188,7 +188,7 @@ fn scan_four<O: Combine>(
 
 #[inline(always)]
 fn scan_from<O: Combine>(op: O, first: O::Item, items: &[O::Item], made: &mut Vec<O::Item>)
-    requires { vec_len made.old + length items.now ≤ vec_capacity made.old }
+    requires room { vec_len made.old + length items.now ≤ vec_capacity made.old }
     ensures { Appends made.old made.new (scanned (O.combined op) first items.now) }
 {
     let mut so_far = first;

@@ -5,15 +5,15 @@ ghost use Rattle.segment_desc.specs.Appended.{IsExact};
 ghost use Rattle.scan_kernels.specs.Elementwise.{selected};
 ghost use Rattle.scan_kernels.specs.Metering.{CountsRun};
 
+use crate::execution::Execution;
 use crate::meter::Meter;
 use segment_desc::OutOfMemory;
 use std::alloc::{AllocError, Global};
-use std::thread::Threads;
 
 /// At each place the integer of the first vector where the flag is set, else that of the second. All three have one
 /// length. One pass into a vector of its final size.
 pub fn select_z(
-    _rt: &(impl Threads + Sync),
+    _execution: &impl Execution,
     alloc: Global,
     meter: &mut Meter,
     flags: &[bool],
@@ -34,7 +34,7 @@ pub fn select_z(
 /// At each place the truth value of the first vector where the flag is set, else that of the second. All three have one
 /// length. One pass into a vector of its final size.
 pub fn select_b(
-    _rt: &(impl Threads + Sync),
+    _execution: &impl Execution,
     alloc: Global,
     meter: &mut Meter,
     flags: &[bool],
@@ -52,7 +52,12 @@ pub fn select_b(
     Ok(truths)
 }
 
-fn chosen<T: Copy>(alloc: Global, flags: &[bool], a: &[T], b: &[T]) -> Result<Vec<T>, AllocError>
+fn chosen<T: Copy + Send + Sync>(
+    alloc: Global,
+    flags: &[bool],
+    a: &[T],
+    b: &[T],
+) -> Result<Vec<T>, AllocError>
     requires first { length flags.now ≡ length a.now }
     requires second { length flags.now ≡ length b.now }
     ensures items { IfOk result (λ v. v.items ≡ selected flags.now a.now b.now) }
@@ -66,7 +71,7 @@ fn chosen<T: Copy>(alloc: Global, flags: &[bool], a: &[T], b: &[T]) -> Result<Ve
 }
 
 // Both items are read, so that the loop has no branch.
-fn either<T: Copy>(flag: bool, x: T, y: T) -> T
+fn either<T: Copy + Send + Sync>(flag: bool, x: T, y: T) -> T
     ensures { result ≡ (if flag then x else y) }
 {
     if flag { x } else { y }

@@ -5,7 +5,7 @@ use crate::{
     are_places, back_permute_b, back_permute_z, gather_b, gather_z, in_range, is_permutation,
     permute_b, permute_z,
 };
-use scan_kernels::Meter;
+use scan_kernels::{Meter, Sequential};
 use std::alloc::Global;
 use std::process::Abort;
 use std::test::Fail;
@@ -148,4 +148,13 @@ fn gathers_from_one_list(rt: HostRuntime) -> Result<(), Fail> {
     assert!(rt; made.is_ok_and(|made| made.is_empty()));
     assert_eq!(rt; meter.runs(), 3);
     Ok(())
+}
+
+#[test]
+fn gathers_with_no_runtime(rt: HostRuntime) {
+    let mut meter = Meter::new();
+    assert!(rt; are_places(&[1, 0], 2));
+    let made = gather_z(&Sequential, rt.alloc(), &mut meter, &[5, 6], &[1, 0]);
+    assert!(rt; made.is_ok_and(|made| made.as_slice() == [6i64, 5].as_slice()));
+    assert_eq!(rt; meter.runs(), 1);
 }

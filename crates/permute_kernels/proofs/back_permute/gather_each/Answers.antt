@@ -7,7 +7,7 @@ use Rattle.permute_kernels.proofs.UndoneMoves.{length-gathered}
 use Rattle.permute_kernels.proofs.back_permute.gather_each.Goals as goal
 
 pub gather-requires-clause-within : goal.gather-requires-clause-within
-gather-requires-clause-within g c =
+gather-requires-clause-within g c = λ κs h.
     places_of_segment c.args.source.now c.args.by.now c.loop-j.j c.loop-j.from c.loop-j.at c.args.items.now c.args.index.now c.loop-j-test.true c.requires.counts c.loop-j.invariant.begins c.loop-j.invariant.place c.requires.source_total c.requires.within
 
 pub loop-j-preserved : goal.loop-j-preserved

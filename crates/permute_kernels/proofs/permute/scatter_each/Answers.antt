@@ -8,7 +8,7 @@ use Rattle.permute_kernels.proofs.permute.scatter_each.Goals as goal
 
 pub scatter-requires-clause-each_once : goal.scatter-requires-clause-each_once
 unfolding PermuteSegments
-scatter-requires-clause-each_once g c =
+scatter-requires-clause-each_once g c = λ κs h.
     All_segment HoldsEachPlaceOnce c.args.lengths.now c.loop-length.length-index c.loop-length.at c.args.index.now c.requires.permutation c.loop-length-test.true c.loop-length.invariant.place
 
 pub loop-length-preserved : goal.loop-length-preserved

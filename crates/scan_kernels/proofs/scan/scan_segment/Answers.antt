@@ -6,8 +6,8 @@ use Rattle.scan_kernels.specs.Segmented.{scanned}
 use Rattle.scan_kernels.proofs.Scanned.{scanned-append, length-scanned}
 use Rattle.scan_kernels.proofs.scan.scan_segment.Goals as goal
 
-pub scan_from-requires : goal.scan_from-requires
-scan_from-requires g c =
+pub scan_from-requires-clause-room : goal.scan_from-requires-clause-room
+scan_from-requires-clause-room g c =
     let fours = c.split_at.result.0.now in
     let many = length-scanned (g.O.Combine.combined c.args.op) c.unit.result fours in
     omega arith
