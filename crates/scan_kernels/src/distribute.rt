@@ -1,6 +1,6 @@
 //! Each value as often as its segment is long.
 
-ghost use Rattle.std.specs.Prelude.{◌≡◌, ◌+◌, ◌≤◌, ◌++◌, length, sum, vec_len, vec_capacity, IfOk};
+ghost use Rattle.std.specs.Prelude.{◌≡◌, ◌+◌, ◌≤◌, length, sum, vec_len, vec_capacity, IfOk};
 ghost use Rattle.segment_desc.specs.Appended.{Appends, IsExact};
 ghost use Rattle.scan_kernels.specs.Distributed.{distributed};
 ghost use Rattle.scan_kernels.specs.Metering.{CountsRun};

@@ -1,6 +1,6 @@
 //! Integers that rise by a stride from the start of each segment.
 
-ghost use Rattle.std.specs.Prelude.{◌≡◌, ◌+◌, ◌≤◌, ◌++◌, length, map, sum, vec_len, vec_capacity, IfOk};
+ghost use Rattle.std.specs.Prelude.{◌≡◌, ◌+◌, ◌≤◌, length, map, sum, vec_len, vec_capacity, IfOk};
 ghost use Rattle.std.specs.List.{zip};
 ghost use Rattle.segment_desc.specs.Lengths.{IsWithinLimits, most};
 ghost use Rattle.segment_desc.specs.Appended.{Appends, IsExact};

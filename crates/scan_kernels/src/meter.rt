@@ -51,7 +51,7 @@ impl Meter {
     /// How many items a chunk has.
     pub fn chunk(&self) -> usize
         ensures chunk { result ≡ self.now.chunk }
-        ensures some { 1 ≤ result }
+        ensures at_least_one { 1 ≤ result }
     {
         self.chunk
     }

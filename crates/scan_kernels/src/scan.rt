@@ -3,7 +3,7 @@
 //! Each arm of a choice names its operation, so that the inlined loop is built once for each operation, without a choice
 //! at each item.
 
-ghost use Rattle.std.specs.Prelude.{◌≡◌, ◌+◌, ◌≤◌, ◌%◌, ◌++◌, length, drop, sum, fold, vec_len, vec_capacity, IfOk};
+ghost use Rattle.std.specs.Prelude.{◌≡◌, ◌+◌, ◌≤◌, ◌%◌, length, drop, sum, fold, vec_len, vec_capacity, IfOk};
 ghost use Rattle.segment_desc.specs.Appended.{Appends, IsExact};
 ghost use Rattle.scan_kernels.specs.Segmented.{scanned, segmented_scan};
 ghost use Rattle.scan_kernels.specs.IntegerScans.{combine_z, unit_z};
