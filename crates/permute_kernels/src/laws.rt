@@ -15,7 +15,8 @@ pub fn permutes_and_back<T>()
     ensures forth { (index : List ℤ) (xs : List T) → HoldsEachPlaceOnce index → length index ≡ length xs → permuted index (gathered index xs) ≡ xs }
 {}
 
-/// A back permute by places of the items has an item for each index: the one at its place.
+/// A gather by places of the items, which a back permute is in each segment, has an item for each index: the one at its
+/// place.
 pub fn gathers_each_place<T>()
     ensures many { (index : List ℤ) (xs : List T) → All (IsPlaceOf (length xs)) index → length (gathered index xs) ≡ length index }
     ensures items { (index : List ℤ) (xs : List T) → All (IsPlaceOf (length xs)) index → (i p : ℕ) → slice_get index i ≡ Some (pos p) → slice_get (gathered index xs) i ≡ slice_get xs p }
