@@ -94,6 +94,22 @@ impl Segd {
         ensures negative { IsErrOf result SegFault.Negative ↔ HasNegative lengths.now }
         ensures too_long { IsErrOf result SegFault.TooLong ↔ MeasuresPast limit lengths.now }
     {
+        let total = Segd::judge_lengths(lengths, limit)?;
+        match Segd::of_lengths(alloc, lengths, total) {
+            Ok(segments) => Ok(segments),
+            Err(_) => Err(SegFault::OutOfMemory),
+        }
+    }
+
+    /// The sum of lengths that a segment list of at most `limit` lengths and items may have, or the fault that
+    /// `from_lengths_within` tells. Takes no memory.
+    pub fn judge_lengths(lengths: &[i64], limit: usize) -> Result<usize, SegFault>
+        requires { limit ≤ most }
+        ensures total { IfOk result (λ total. sum (sizes lengths.now) ≡ total) }
+        ensures negative { IsErrOf result SegFault.Negative ↔ HasNegative lengths.now }
+        ensures too_long { IsErrOf result SegFault.TooLong ↔ MeasuresPast limit lengths.now }
+        ensures no_memory { result ≢ Err SegFault.OutOfMemory }
+    {
         if has_negative(lengths) {
             return Err(SegFault::Negative);
         }
@@ -101,6 +117,15 @@ impl Segd {
         if limit < lengths.len() || limit < total {
             return Err(SegFault::TooLong);
         }
+        Ok(total)
+    }
+
+    /// The segment list of these lengths, whose sum is `total`: what `judge_lengths` takes.
+    pub fn of_lengths(alloc: Global, lengths: &[i64], total: usize) -> Result<Segd, OutOfMemory>
+        requires sum { sum (sizes lengths.now) ≡ total }
+        requires within { IsWithinLimits (sizes lengths.now) }
+        ensures { IfOk result (λ s. s ≡ sizes lengths.now) }
+    {
         let mut kept = Vec::with_capacity(alloc, lengths.len())?;
         for length in lengths {
             kept.push_reserved(length.unsigned_abs() as usize);
