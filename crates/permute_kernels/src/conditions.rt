@@ -16,6 +16,15 @@ pub fn is_permutation(alloc: Global, index: &[i64], segments: &Segd) -> Result<b
     Ok(permutes_each(alloc, index, segments.lengths())?)
 }
 
+/// Whether the index holds each of its own places once: `is_permutation` where one segment has all items. One pass over the
+/// index, and a byte for each of its items.
+pub fn is_whole_permutation(alloc: Global, index: &[i64]) -> Result<bool, OutOfMemory>
+    ensures { IfOk result (λ b. IsTrue b ↔ HoldsEachPlaceOnce index.now) }
+{
+    let mut seen = vec![in alloc; false; index.len()]?;
+    Ok(holds_each_once(index, seen.as_mut_slice()))
+}
+
 #[tactic(auto, unfolding(crate::specs::Indices::PermuteSegments))]
 fn permutes_each(alloc: Global, index: &[i64], lengths: &[usize]) -> Result<bool, AllocError>
     requires { sum lengths.now ≡ length index.now }

@@ -17,7 +17,7 @@ mod place;
 mod tests;
 
 pub use back_permute::{back_permute_b, back_permute_z};
-pub use conditions::{are_places, in_range, is_permutation};
+pub use conditions::{are_places, in_range, is_permutation, is_whole_permutation};
 pub use gather::{gather_b, gather_z};
 pub use pack::{pack_b, pack_z, packed_lengths};
 pub use permute::{permute_b, permute_z};
