@@ -2,6 +2,7 @@
 //! A name's value is replaced in place, and a refused store changes nothing.
 #![tactic(auto)]
 
+pub mod laws;
 mod memory;
 mod name;
 #[cfg(test)]

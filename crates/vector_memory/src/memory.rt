@@ -16,7 +16,8 @@ use std::alloc::Global;
 use std::marker::Model;
 use thiserror::Error;
 
-/// The greatest number of items of a value, and the greatest sum of the lengths of a segment list.
+/// The limit of a memory as it is made: the greatest number of items of a value, and the greatest sum of the lengths of a
+/// segment list.
 pub const ITEM_LIMIT: usize = 1_048_576;
 
 /// The greatest room of a memory.
@@ -57,12 +58,14 @@ struct Place {
     cells: usize,
 }
 
-/// Values by name, in the order in which the names came, whose items are together no more than the room.
+/// Values by name, in the order in which the names came. Their items are together no more than the room, and those of each
+/// no more than the limit.
 #[derive(Drop)]
 pub struct Memory {
     values: IndexMap<Name, Value>,
     cells: usize,
     room: u64,
+    limit: usize,
 }
 
 impl Model for Memory {
@@ -81,7 +84,8 @@ impl Model for Memory {
 impl Memory {
     ghost use Rattle.vector_memory.specs.States.{State, IsLawful, IsLawfulRoom, IsJudged, empty, value_at, cells_of, cells_after, refusal, put, without, contents, item_limit, FitsLimits};
 
-    /// A memory without values, for values of up to `room` items together: from 1 to `ROOM_LIMIT`.
+    /// A memory without values, for values of up to `room` items together, from 1 to `ROOM_LIMIT`, and of up to `ITEM_LIMIT`
+    /// items each.
     pub fn new(alloc: Global, room: u64) -> Result<Memory, OutOfMemory>
         requires { IsLawfulRoom room }
         ensures { IfOk result (λ memory. memory ≡ empty room) }
@@ -90,21 +94,21 @@ impl Memory {
             values: IndexMap::with_capacity(alloc, FIRST_NAMES)?,
             cells: 0,
             room,
+            limit: ITEM_LIMIT,
         })
     }
 
     /// The value of a name, if it has one.
     pub fn get(&self, name: &Name) -> Option<&Value>
         ensures value { option_map content_of (option_copied result) ≡ value_at self.now name.now }
-        ensures fits { IfSome result (λ value. FitsLimits (content_of value.now)) }
+        ensures fits { IfSome result (λ value. FitsLimits self.now.limit (content_of value.now)) }
     {
         self.values.get(name)
     }
 
-    /// The number of items of all values. Every memory keeps its limits.
+    /// The number of items of all values.
     pub fn cells(&self) -> usize
-        ensures cells { result ≡ cells_of self.now.entries }
-        ensures lawful { IsLawful self.now }
+        ensures { result ≡ cells_of self.now.entries }
     {
         self.cells
     }
@@ -123,12 +127,18 @@ impl Memory {
         self.values.is_empty()
     }
 
-    /// The greatest number of items of all values. Every memory keeps its limits.
+    /// The greatest number of items of all values.
     pub fn room(&self) -> u64
-        ensures room { result ≡ self.now.room }
-        ensures lawful { IsLawful self.now }
+        ensures { result ≡ self.now.room }
     {
         self.room
+    }
+
+    /// The greatest number of items of a value, and the greatest sum of the lengths of a segment list.
+    pub fn limit(&self) -> usize
+        ensures { result ≡ self.now.limit }
+    {
+        self.limit
     }
 
     /// The values with their names, in the order in which the names came. No name comes twice.
@@ -138,6 +148,13 @@ impl Memory {
         ensures runs { ShowsInOrder (deref_pair {K = Name} {X = Value}) }
     {
         self.values.iter()
+    }
+
+    /// That every memory is lawful, which a read of a field makes known.
+    pub(crate) fn recall_lawful(&self)
+        ensures { IsLawful self.now }
+    {
+        let _room = self.room;
     }
 
     /// The index of a name and its value, if it has one.
@@ -152,12 +169,13 @@ impl Memory {
     /// Where a value goes under a name and how many items there are then, or why it cannot go there.
     #[tactic(auto, using(crate::proofs::StateLemmas::old_size_le_cells))]
     fn judge(&self, name: &Name, value: &Value) -> Result<Place, StoreFault>
-        requires { size_of (content_of value.now) ≤ item_limit }
+        requires { size_of (content_of value.now) ≤ self.now.limit }
         ensures accepted { OnOk result (refusal self.now name.now (content_of value.now) ≡ None) }
         ensures index { IfOk result (λ place. place.index ≡ position (same_name name.now) (keys_of self.now.entries)) }
         ensures cells { IfOk result (λ place. place.cells ≡ cells_after self.now name.now (content_of value.now)) }
         ensures refused { IfErr result (λ fault. refusal self.now name.now (content_of value.now) ≡ Some fault) }
     {
+        self.recall_lawful();
         let old = self.find(name);
         let cells = self.cells() - old.map_or(0, |(_, value)| value.size()) + value.size();
         if cells as u64 > self.room() {
@@ -176,7 +194,7 @@ impl Memory {
     /// On a refusal nothing changes and the value is dropped: `NoRoom` where the room is passed, else `TooManyNames` where
     /// the name is new and there are `NAME_LIMIT` names. Memory is refused to a new name alone.
     pub fn store(&mut self, name: Name, value: Value) -> Result<(), StoreFault>
-        requires { FitsLimits (content_of value) }
+        requires { FitsLimits self.old.limit (content_of value) }
         ensures judged { IsJudged result (refusal self.old name (content_of value)) }
         ensures new_only { result ≡ Err StoreFault.OutOfMemory → value_at self.old name ≡ None }
         ensures ok { OnOk result (self.new ≡ put self.old name (content_of value)) }

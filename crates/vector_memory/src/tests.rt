@@ -2,8 +2,9 @@
 
 ghost use Rattle.std.specs.Prelude.{IfOk};
 ghost use Rattle.vector_memory.specs.Contents.{content_of};
-ghost use Rattle.vector_memory.specs.States.{FitsLimits};
+ghost use Rattle.vector_memory.specs.States.{FitsLimits, IsLawfulLimit};
 
+use crate::laws::memories_are_lawful;
 use crate::{ITEM_LIMIT, Memory, NAME_LIMIT, Name, ROOM_LIMIT, StoreFault, Value};
 use segment_desc::Segd;
 use std::alloc::Global;
@@ -22,18 +23,19 @@ enum Plain<'a> {
     Segs(&'a [i64]),
 }
 
-fn made(alloc: Global, plain: Plain<'_>) -> Result<Value, Fail>
-    ensures { IfOk result (λ value. FitsLimits (content_of value)) }
+fn made(alloc: Global, plain: Plain<'_>, limit: usize) -> Result<Value, Fail>
+    requires { IsLawfulLimit limit }
+    ensures { IfOk result (λ value. FitsLimits limit (content_of value)) }
 {
     match plain {
-        Plain::Ints(items) if items.len() <= ITEM_LIMIT => {
+        Plain::Ints(items) if items.len() <= limit => {
             Ok(Value::Ints(Vec::from_slice(alloc, items)?))
         }
-        Plain::Bools(items) if items.len() <= ITEM_LIMIT => {
+        Plain::Bools(items) if items.len() <= limit => {
             Ok(Value::Bools(Vec::from_slice(alloc, items)?))
         }
         Plain::Segs(lengths) => {
-            let segments = Segd::from_lengths_within(alloc, lengths, ITEM_LIMIT);
+            let segments = Segd::from_lengths_within(alloc, lengths, limit);
             Ok(Value::Segs(segments.map_err(|_| "no segment list")?))
         }
         _ => Err("too long")?,
@@ -41,7 +43,7 @@ fn made(alloc: Global, plain: Plain<'_>) -> Result<Value, Fail>
 }
 
 fn is(alloc: Global, value: &Value, plain: Plain<'_>) -> Result<bool, Fail> {
-    Ok(*value == made(alloc, plain)?)
+    Ok(*value == made(alloc, plain, ITEM_LIMIT)?)
 }
 
 /// What a store of the value under the name comes to, in a word.
@@ -52,7 +54,9 @@ fn outcome(
     plain: Plain<'_>,
 ) -> Result<&'static str, Fail> {
     let name = name(text)?;
-    Ok(match memory.store(name, made(alloc, plain)?) {
+    memories_are_lawful(memory);
+    let value = made(alloc, plain, memory.limit())?;
+    Ok(match memory.store(name, value) {
         Ok(()) => "stored",
         Err(StoreFault::NoRoom) => "no room",
         Err(StoreFault::TooManyNames) => "too many names",
@@ -176,7 +180,7 @@ const VALUES: &[(Plain<'_>, usize, Plain<'_>)] = &[
 
 /// Whether a copy of the first value has the size, and is equal to the first value and not to the other.
 fn is_copied(alloc: Global, plain: Plain<'_>, size: usize, other: Plain<'_>) -> Result<bool, Fail> {
-    let copy = made(alloc, plain)?.try_copy()?;
+    let copy = made(alloc, plain, ITEM_LIMIT)?.try_copy()?;
     Ok(copy.size() == size && is(alloc, &copy, plain)? && !is(alloc, &copy, other)?)
 }
 
@@ -295,9 +299,10 @@ fn stores_values(rt: HostRuntime) -> Result<(), Fail> {
 }
 
 #[test]
-fn knows_its_room_and_no_strange_name(rt: HostRuntime) -> Result<(), Fail> {
+fn knows_its_room_its_limit_and_no_strange_name(rt: HostRuntime) -> Result<(), Fail> {
     let memory = Memory::new(rt.alloc(), 4)?;
     assert_eq!(rt; memory.room(), 4);
+    assert_eq!(rt; memory.limit(), 1_048_576);
     expect_absent(&rt, &memory, b"e")
 }
 

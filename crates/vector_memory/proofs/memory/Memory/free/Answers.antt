@@ -16,7 +16,7 @@ pub invariant_of-self : goal.invariant_of-self
 invariant_of-self c =
     let old = c.self.inside in
     let name = c.args.name.now in
-    let left : contents c.shift_remove_index.new.self.entries ≡ remove_entry (same_name name) (contents old.values.entries) = ap contents c.shift_remove_index.ensures.entries ∙ contents-remove c.args.self.now old.values.entries old.room name c.in-Some.index c.self.view_is c.in-Some.ensures.index in
+    let left : contents c.shift_remove_index.new.self.entries ≡ remove_entry (same_name name) (contents old.values.entries) = ap contents c.shift_remove_index.ensures.entries ∙ contents-remove c.args.self.now old.values.entries old.room old.limit name c.in-Some.index c.self.view_is c.in-Some.ensures.index in
     let distinct : IsDistinct same_name (keys_of (contents c.shift_remove_index.new.self.entries)) = rw keys_of-contents c.shift_remove_index.ensures.unique in
     let lawful = IsLawful-without (state_of old) name c.self.invariant.lawful (rw (← left) distinct) in
     let cells = cells-remove_entry (contents old.values.entries) name in
@@ -31,5 +31,5 @@ invariant_of-self c =
 pub returns-clause-taken : goal.returns-clause-taken
 returns-clause-taken c =
     let old = c.self.inside in
-    let left = ap contents c.shift_remove_index.ensures.entries ∙ contents-remove c.args.self.now old.values.entries old.room c.args.name.now c.in-Some.index c.self.view_is c.in-Some.ensures.index in
+    let left = ap contents c.shift_remove_index.ensures.entries ∙ contents-remove c.args.self.now old.values.entries old.room old.limit c.args.name.now c.in-Some.index c.self.view_is c.in-Some.ensures.index in
     rw left (ap (λ (m : State). without m c.args.name.now) c.self.view_is)
