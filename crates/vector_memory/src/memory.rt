@@ -82,7 +82,7 @@ impl Model for Memory {
 }
 
 impl Memory {
-    ghost use Rattle.vector_memory.specs.States.{State, IsLawful, IsLawfulRoom, IsJudged, empty, value_at, cells_of, cells_after, refusal, put, without, contents, item_limit, FitsLimits};
+    ghost use Rattle.vector_memory.specs.States.{State, IsLawful, IsLawfulRoom, IsJudged, empty, value_at, cells_of, cells_after, refusal, put, without, contents, FitsLimits};
 
     /// A memory without values, for values of up to `room` items together, from 1 to `ROOM_LIMIT`, and of up to `ITEM_LIMIT`
     /// items each.
