@@ -14,6 +14,7 @@ mod items;
 pub mod laws;
 mod named;
 mod number;
+mod parts;
 mod reading;
 mod reply;
 #[cfg(test)]
@@ -24,8 +25,9 @@ mod word;
 mod words;
 mod writing;
 
-pub use call::{Call, reads, target};
+pub use call::Call;
 pub use fault::{Fault, ReadFault};
+pub use parts::{call_word, reads, target};
 pub use reply::Reply;
 pub use text::next_word;
 pub use word::{

@@ -1,7 +1,7 @@
 //! Every call word: the names that its call reads, and the name that it writes or frees.
 
 use super::name;
-use crate::{Call, reads, target};
+use crate::{Call, Kind, OneWord, ScanZ, ThreeWord, TwoWord, Word, call_word, reads, target};
 use std::alloc::Global;
 use std::test::Fail;
 use vector_memory::Name;
@@ -142,4 +142,32 @@ fn reads_every_word(rt: HostRuntime) -> Result<(), Fail> {
     let a = Some(names[0]);
     assert!(rt; is_read(rt.alloc(), b"fre_fov a", first(names, 1), a));
     Ok(())
+}
+
+/// Lines, and the words of their calls.
+static WORDS: [(&[u8], Word); 6] = [
+    (b"d = b T F", Word::SetBools),
+    (b"d = max_suz a", Word::One(OneWord::ScanZ(ScanZ::Max))),
+    (b"d = max_sez a s", Word::Two(TwoWord::ScanSegZ(ScanZ::Max))),
+    (b"d = smp_pub a i", Word::Two(TwoWord::Smp(Kind::B))),
+    (
+        b"d = smp_peb a i s",
+        Word::Three(ThreeWord::SmpSeg(Kind::B)),
+    ),
+    (b"ext_vuz a 3", Word::Ext),
+];
+
+/// Whether the call of a line has this word.
+fn has_word(alloc: Global, line: &[u8], wanted: Word) -> bool {
+    match Call::read(alloc, line) {
+        Ok(call) => call_word(&call) == wanted,
+        Err(_) => false,
+    }
+}
+
+#[test]
+fn tells_the_words_of_calls(rt: HostRuntime) {
+    for (line, word) in &WORDS {
+        assert!(rt; has_word(rt.alloc(), line, *word));
+    }
 }
