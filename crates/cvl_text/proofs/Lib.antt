@@ -1,4 +1,5 @@
 pub mod Truths
+pub mod SameWords
 pub mod Spaced
 pub mod WordTexts
 pub mod WordTable
