@@ -1,7 +1,6 @@
 -- How many items the kernels' results have, at most.
-use Rattle.std.proofs.Common.{◌≡◌, ℕ, zero, suc, ◌+◌, ◌<◌, ◌≤◌, List, [], ◌∷◌, ◌++◌, length, take, drop, map, refl, sym, ap, ◌∙◌, sum, ℤ, pos, Bool, true, false, Option, Some, None, replicate, arith, zip, length-append}
-use Rattle.std.specs.List.{filter, filter_map, flat_map, range_with_len}
-use Rattle.std.specs.Prelude.{slice_set}
+use Rattle.std.proofs.Common.{◌≡◌, ℕ, zero, suc, ◌+◌, ◌≤◌, List, [], ◌∷◌, length, take, drop, refl, ap, ◌∙◌, sum, ℤ, pos, Bool, true, false, Option, Some, None, replicate, arith, zip, length-append}
+use Rattle.std.specs.List.{filter_map, flat_map, range_with_len}
 use Rattle.std.proofs.lemmas.List.{length-drop, length-map, length-replicate, length-take}
 use Rattle.std.proofs.lemmas.List.FromFn.{length-map-range_with_len}
 use Rattle.std.proofs.lemmas.List.Sums.{sum_by-cons}

@@ -1,7 +1,7 @@
 -- Conditions as they are computed, and as the kernels know them: `divisors-tested`, `shifts-tested`, `permutes-tested`,
--- `lies_within-tested`. Each says that a test that tells the one tells the other.
-use Rattle.std.proofs.Common.{◌≡◌, ◌↔◌, ℕ, zero, ◌+◌, ◌<◌, ◌≤◌, List, [], ◌∷◌, length, take, drop, get_or, All, IsTrue, Bool, true, false, refl, sym, ap, ◌∙◌, ℤ, pos, negsuc, zip, arith, subst}
-use Rattle.std.specs.Prelude.{◌&&◌, ◌==◌, nat_lt, ◌≤ℤ◌, ◌<ℤ◌}
+-- `places-tested`, `once-tested`, `lies_within-tested`. Each says that a test that tells the one tells the other.
+use Rattle.std.proofs.Common.{◌≡◌, ◌↔◌, ℕ, ◌+◌, ◌<◌, List, [], ◌∷◌, length, All, IsTrue, Bool, true, false, refl, sym, ◌∙◌, ℤ, pos, negsuc, zip, arith, subst}
+use Rattle.std.specs.Prelude.{◌&&◌, ◌==◌}
 use Rattle.std.specs.List.{AllByRecursion, AllZip, list_all, range_with_len}
 use Rattle.std.proofs.lemmas.Bool.{ltb-true, eqb-true, lt-ltb}
 use Rattle.std.proofs.lemmas.Bool.Decides.{nat_tests}
@@ -78,6 +78,9 @@ places-pass n = all_pass (is_place n) (IsPlaceOf n) (place-passes n)
 pub places-hold : (n : ℕ) (index : List ℤ) → list_all (is_place n) index ≡ true → All (IsPlaceOf n) index
 places-hold n = all_hold (is_place n) (IsPlaceOf n) (place-holds n)
 
+pub places-tested : (b : Bool) (n : ℕ) (index : List ℤ) → IsTrue b ↔ All (IsPlaceOf n) index → b ≡ list_all (is_place n) index
+places-tested b n index h = same_answer b (list_all (is_place n) index) (All (IsPlaceOf n) index) h (places-pass n index) (places-hold n index)
+
 module _ (index : List ℤ) where
   pub once-passes : HoldsEachPlaceOnce index → holds_each_place index ≡ true
   once-passes h =
@@ -92,6 +95,9 @@ module _ (index : List ℤ) where
       let here = each p 0 (omega (arith, length-range_with_len 0 (length index))) in
       let place : 0 + p ≡ p = omega arith in
       subst (λ (k : ℕ). times_held k index ≡ 1) (get_or-range_with_len 0 (length index) p 0 lt ∙ place) here
+
+pub once-tested : (b : Bool) (index : List ℤ) → IsTrue b ↔ HoldsEachPlaceOnce index → b ≡ holds_each_place index
+once-tested b index h = same_answer b (holds_each_place index) (HoldsEachPlaceOnce index) h (once-passes index) (once-holds index)
 
 pub permutes-pass : (ls : List ℕ) (index : List ℤ) → PermuteSegments ls index → permutes ls index ≡ true
 unfolding PermuteSegments

@@ -1,19 +1,23 @@
--- One segment that has all items: what the kernels make of it is what is made of the items. `segmented_pack-joined`: a pack
--- needs no segments.
-use Rattle.std.proofs.Common.{◌≡◌, ℕ, List, [], ◌∷◌, ◌++◌, length, take, drop, refl, sym, ap, ◌∙◌, sum, ℤ, Bool, true, false, replicate, arith, zip}
+-- One segment that has all items: what the kernels make of it is what is made of the items. `over_items-packed`: a pack needs
+-- no segments.
+use Rattle.std.proofs.Common.{◌≡◌, ℕ, List, [], ◌∷◌, ◌++◌, length, take, drop, refl, sym, ap, ◌∙◌, subst, All, sum, ℤ, Bool, true, false, replicate, arith, zip}
 use Rattle.std.specs.Prelude.{◌&&◌}
 use Rattle.std.specs.List.{flat_map, list_all}
 use Rattle.std.proofs.lemmas.List.{append-nil, length-drop, length-take, take-append-drop, take_all}
+use Rattle.std.proofs.lemmas.List.Elements.{All-from_recursion}
 use Rattle.std.proofs.lemmas.List.Sums.{sum_by-cons}
 use Rattle.segment_desc.specs.Cut.{cut}
 use Rattle.scan_kernels.specs.Segmented.{reduced, scanned, segmented_scan, segmented_reduce}
 use Rattle.scan_kernels.specs.Distributed.{distributed}
 use Rattle.scan_kernels.specs.Indexed.{indexed, segmented_index}
 use Rattle.permute_kernels.specs.Gathered.{gathered, segmented_gather}
+use Rattle.permute_kernels.specs.Indices.{HoldsEachPlaceOnce, PermuteSegments}
 use Rattle.permute_kernels.specs.Packed.{packed}
 use Rattle.permute_kernels.specs.Permuted.{permuted, segmented_permute}
 use Rattle.permute_kernels.proofs.Joining.{packed-append}
+use Rattle.vector_memory.specs.Contents.{Content, Ints, Bools, Segs, size_of}
 use Rattle.cvl_calls.specs.Conditions.{holds_each_place, permutes, is_place, lies_within}
+use Rattle.cvl_calls.specs.Operands.{over_items}
 use Rattle.cvl_calls.specs.SegmentedPack.{segmented_pack}
 
 module _ {X : Type 0} (xs : List X) where
@@ -43,6 +47,12 @@ permutes-whole index = ap (list_all holds_each_place) (cut-whole index) ∙ and_
 pub lies_within-whole : (n : ℕ) (index : List ℤ) → lies_within (n ∷ []) (length index ∷ []) index ≡ list_all (is_place n) index
 lies_within-whole n index =
     ap (λ (pieces : List (List ℤ)). list_all (λ p. list_all (is_place p.0) p.1) (zip (n ∷ []) pieces)) (cut-whole index) ∙ and_true (list_all (is_place n) index)
+
+pub once-permutes : (ls : List ℕ) (index : List ℤ) → ls ≡ length index ∷ [] → HoldsEachPlaceOnce index → PermuteSegments ls index
+unfolding PermuteSegments
+once-permutes ls index whole once =
+    let one : All HoldsEachPlaceOnce (index ∷ []) = All-from_recursion HoldsEachPlaceOnce (index ∷ []) (once, tt) in
+    rw whole (subst (All HoldsEachPlaceOnce) (sym (cut-whole index)) one)
 
 module _ {X : Type 0} (index : List ℤ) (xs : List X) where
   pub segmented_permute-whole : length xs ≡ length index → segmented_permute (length index ∷ []) index xs ≡ permuted index xs
@@ -74,3 +84,12 @@ module _ {X : Type 0} where
       ∙ sym (packed-append (take l flags) (drop l flags) (take l xs) (drop l xs) front)
       ∙ ap (λ (f : List Bool). packed f (take l xs ++ drop l xs)) (take-append-drop l flags)
       ∙ ap (packed flags) (take-append-drop l xs)
+
+over_items-same : (f g : (X : Type 0) → List X → List X) (v : Content) → ((X : Type 0) (xs : List X) → length xs ≡ size_of v → f X xs ≡ g X xs) → over_items f v ≡ over_items g v
+over_items-same f g (Ints xs) same = ap (λ (l : List ℤ). Ints l) (same ℤ xs refl)
+over_items-same f g (Bools bs) same = ap (λ (l : List Bool). Bools l) (same Bool bs refl)
+over_items-same f g (Segs ls) same = refl
+
+pub over_items-packed : (ls : List ℕ) (flags : List Bool) (v : Content) → size_of v ≡ length flags → sum ls ≡ size_of v → over_items (λ X xs. packed flags xs) v ≡ over_items (λ X xs. segmented_pack ls flags xs) v
+over_items-packed ls flags v same all =
+    over_items-same (λ X xs. packed flags xs) (λ X xs. segmented_pack ls flags xs) v (λ X xs long. sym (segmented_pack-joined ls flags xs (all ∙ same) (sym same ∙ sym long)))

@@ -1,5 +1,5 @@
 -- What the shapes of calls ask of their operands together, with the fault where it does not hold.
-use Rattle.std.specs.Prelude.{ℕ, ℤ, pos, negsuc, Bool, true, false, not, ◌&&◌, List, length, sum, Option, Some, None, Result, Ok, Err, nat_lt, nat_le, ◌==◌, int_le, int_lt}
+use Rattle.std.specs.Prelude.{ℕ, ℤ, pos, negsuc, Bool, false, not, ◌&&◌, List, length, sum, Option, Some, None, Result, Ok, Err, nat_lt, ◌==◌, int_le, int_lt}
 use Rattle.std.specs.List.{list_all, range_with_len, zip}
 use Rattle.std.specs.Ordering.{int_eq}
 use Rattle.segment_desc.specs.Cut.{cut}
@@ -28,6 +28,10 @@ is_divisor y = not (int_eq y (pos 0))
 -- a number of places to shift by, 0 to 63
 abbrev pub is_shift : ℤ → Bool
 is_shift y = int_le (pos 0) y && int_lt y (pos 64)
+
+-- any second operands will do
+abbrev pub any_seconds : {X : Type 0} → List X → Result (Unit {0}) Fault
+any_seconds ys = Ok tt
 
 -- the second operands are ones that the operation takes
 abbrev pub seconds : Z2 → List ℤ → Result (Unit {0}) Fault

@@ -1,12 +1,12 @@
 -- What a call makes of its operands.
-use Rattle.std.specs.Prelude.{◌≡◌, ℕ, ℤ, Bool, true, false, IsTrue, List, map, Option, Result, Ok, Err, if◌then◌else◌}
+use Rattle.std.specs.Prelude.{◌≡◌, ℕ, ℤ, Bool, true, false, IsTrue, List, map, Option, Some, None, Result, Ok, Err, if◌then◌else◌}
 use Rattle.vector_memory.specs.Contents.{Content, content_of}
 use Rattle.vector_memory.specs.States.{State, FitsLimits, value_at}
 use Rattle.cvl_text.specs.declared.fault.Fault.{Fault}
 use Rattle.cvl_text.specs.declared.fault.Fault.TheVariants.{BadIndex}
 use Rattle.cvl_text.specs.Answers.{Answer, answer_of}
 use Rattle.cvl_text.specs.Tasks.{Argument, Vector, Number, Truth, Numbers, Truths}
-use Rattle.scan_kernels.specs.Metering.{raised}
+use Rattle.scan_kernels.specs.Metering.{Metered, CountsRun}
 use Rattle.cvl_calls.specs.declared.stop.Stop.{Stop}
 use Rattle.cvl_calls.specs.declared.stop.Stop.TheVariants as stops
 use Rattle.cvl_calls.specs.declared.product.Product.{Product}
@@ -41,11 +41,11 @@ effect_of (products.Store v) = Stores (content_of v)
 effect_of products.Free = Frees
 effect_of (products.Reply r) = Answers (answer_of r)
 
--- a value to store keeps the limits of a value
-abbrev pub IsFittingEffect : Effect → Type 0
-IsFittingEffect (Stores v) = FitsLimits v
-IsFittingEffect Frees = Unit {0}
-IsFittingEffect (Answers a) = Unit {0}
+-- a value to store is one that a memory of this limit may hold
+abbrev pub IsFittingEffect : ℕ → Effect → Type 0
+IsFittingEffect limit (Stores v) = FitsLimits limit v
+IsFittingEffect limit Frees = Unit {0}
+IsFittingEffect limit (Answers a) = Unit {0}
 
 infixl 10 ◌>>=◌
 abbrev pub ◌>>=◌ : {A B : Type 0} → Result A Fault → (A → Result B Fault) → Result B Fault
@@ -79,10 +79,14 @@ abbrev pub Gives : {X Y : Type 0} → (X → Y) → Result X Stop → Result Y F
 Gives view r said = GivesBy false view r said
 
 -- A kernel ran where there is a result and the call runs one.
-abbrev pub Counts : {X E : Type 0} → Bool → Result X E → ℕ → ℕ → Type 0
-Counts true (Ok x) old new = new ≡ raised old
-Counts false (Ok x) old new = new ≡ old
-Counts runs (Err e) old new = new ≡ old
+abbrev pub Counts : {X E : Type 0} → Bool → Result X E → Metered → Metered → Type 0
+Counts true r old new = CountsRun r old new
+Counts false r old new = new ≡ old
+
+-- the fault, if there is one
+abbrev pub fault_in : {Y : Type 0} → Result Y Fault → Option Fault
+fault_in (Ok y) = None
+fault_in (Err f) = Some f
 
 -- what stopped a function is a fault, and no want of memory
 abbrev pub IsFault : Stop → Type 0

@@ -4,7 +4,7 @@ use Rattle.cvl_text.specs.declared.word.Word.{Word}
 use Rattle.cvl_text.specs.declared.word.Word.TheVariants.{SetInts, SetBools, Ask, One, Two, Three, Alo, Ext, Rep}
 use Rattle.cvl_text.specs.declared.word.AskWord.TheVariants.{Get, Free, Len}
 use Rattle.cvl_text.specs.declared.word.OneWord.TheVariants.{Mov, MakeSegs, LenSegs}
-use Rattle.cvl_text.specs.declared.word.TwoWord.TheVariants.{Smp, Bck}
+use Rattle.cvl_text.specs.declared.word.TwoWord.TheVariants.{Smp}
 use Rattle.cvl_text.specs.declared.word.ThreeWord.TheVariants.{SmpSeg}
 
 -- every call runs one kernel, except these
@@ -22,10 +22,9 @@ runs_kernel Ext = false
 runs_kernel Rep = false
 runs_kernel word = true
 
--- whether the index is a permutation is seen by marks, a byte for each place; an index of one segment needs the segment
+-- whether the index is a permutation is seen by marks, a byte for each place
 abbrev pub tests_index : Word → Bool
 tests_index (Two (Smp kind)) = true
-tests_index (Two (Bck kind)) = true
 tests_index (Three (SmpSeg kind)) = true
 tests_index word = false
 

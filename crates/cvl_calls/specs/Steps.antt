@@ -42,11 +42,11 @@ followed m to (Ok effect) = applied m to effect
 followed m to (Err fault) = record { memory = m; answer = FaultOf fault }
 
 abbrev pub stepped : State → Task → Stepped
-stepped m t = followed m (target t) (work t.word (operands_of m t.arguments))
+stepped m t = followed m (target t) (work m.limit t.word (operands_of m t.arguments))
 
 -- What the call reads gives no fault, or one behind a test that takes memory: the one case in which a step may run out of it.
 abbrev pub MayLackMemory : State → Task → Type 0
-MayLackMemory m t = MayRunOut (tests_index t.word) (work t.word (operands_of m t.arguments))
+MayLackMemory m t = MayRunOut (tests_index t.word) (work m.limit t.word (operands_of m t.arguments))
 
 -- An effect that stores a value for which the memory has room: the one case in which its doing may run out of memory.
 abbrev pub Grows : State → Option Name → Effect → Type 0

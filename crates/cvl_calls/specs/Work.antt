@@ -1,16 +1,9 @@
--- The work of each shape of call: its result, or the first fault, from the operands alone.
--- A block has one line a check, in the order in which they are made: a name that stands for nothing, a value of another
--- type, and then the shape's own. Room and the number of names are judged where the result is stored.
-use Rattle.std.specs.Prelude.{ℕ, pos, unsigned_abs, not, List, length, map, sum, replicate, None, Result, Ok, Err, nat_le, ◌==◌, unwrap_or, slice_get, slice_set}
+-- The work of each shape of call: its result, or the first fault, from the operands alone. `limit` is the greatest number of
+-- items of a value. A block has one line a check, in the order in which they are made: a name that stands for nothing, a
+-- value of another type, and then the shape's own. Room and the number of names are judged where the result is stored.
+use Rattle.std.specs.Prelude.{ℕ, pos, unsigned_abs, not, List, length, map, sum, replicate, None, Result, Ok, nat_le, ◌==◌, unwrap_or, slice_get, slice_set}
 use Rattle.std.specs.List.{list_all}
 use Rattle.segment_desc.specs.Lengths.{has_negative, sizes}
-use Rattle.scan_kernels.specs.declared.operation.Z2.{Z2}
-use Rattle.scan_kernels.specs.declared.operation.Z1.{Z1}
-use Rattle.scan_kernels.specs.declared.operation.Cmp.{Cmp}
-use Rattle.scan_kernels.specs.declared.operation.B2.{B2}
-use Rattle.scan_kernels.specs.declared.operation.B1.{B1}
-use Rattle.scan_kernels.specs.declared.combine.ScanZ.{ScanZ}
-use Rattle.scan_kernels.specs.declared.combine.ScanB.{ScanB}
 use Rattle.scan_kernels.specs.IntegerOps.{apply_z, alter_z, compares}
 use Rattle.scan_kernels.specs.BooleanOps.{apply_b, alter_b}
 use Rattle.scan_kernels.specs.IntegerScans.{combine_z, unit_z}
@@ -23,10 +16,9 @@ use Rattle.permute_kernels.specs.Permuted.{permuted, segmented_permute}
 use Rattle.permute_kernels.specs.Gathered.{item_at, gathered, segmented_gather}
 use Rattle.permute_kernels.specs.Packed.{packed, numbers_set}
 use Rattle.cvl_calls.specs.SegmentedPack.{segmented_pack}
-use Rattle.vector_memory.specs.Contents.{Ints, Bools, Segs, size_of}
-use Rattle.vector_memory.specs.States.{item_limit}
+use Rattle.vector_memory.specs.Contents.{Ints, Segs, size_of}
 use Rattle.cvl_text.specs.declared.fault.Fault.{Fault}
-use Rattle.cvl_text.specs.declared.fault.Fault.TheVariants.{WrongType, BadSegments, BadIndex, TooLong}
+use Rattle.cvl_text.specs.declared.fault.Fault.TheVariants.{BadSegments, BadIndex, TooLong}
 use Rattle.cvl_text.specs.declared.word.Word.{Word}
 use Rattle.cvl_text.specs.declared.word.Word.TheVariants as words
 use Rattle.cvl_text.specs.declared.word.AskWord.{AskWord}
@@ -39,24 +31,17 @@ use Rattle.cvl_text.specs.declared.word.ThreeWord.{ThreeWord}
 use Rattle.cvl_text.specs.declared.word.ThreeWord.TheVariants as threes
 use Rattle.cvl_text.specs.declared.word.Kind.{Kind}
 use Rattle.cvl_text.specs.declared.word.Kind.TheVariants as kinds
-use Rattle.cvl_text.specs.Answers.{IntOf, BoolOf, VectorOf}
-use Rattle.cvl_calls.specs.Outcomes.{Operand, Held, NumberGiven, TruthGiven, NumbersGiven, TruthsGiven, Effect, Stores, Frees, Answers, ◌>>=◌, check}
-use Rattle.cvl_calls.specs.Operands.{any_value, ints, bools, segs, items, over_items, number, truth, count}
-use Rattle.cvl_calls.specs.Conditions.{same_length, has_all, has_each, seconds, is_place, holds_each_place, permutes, lies_within, found}
+use Rattle.cvl_text.specs.Answers.{IntOf, VectorOf}
+use Rattle.cvl_calls.specs.Outcomes.{Operand, Held, Effect, Stores, Frees, Answers, ◌>>=◌, check}
+use Rattle.cvl_calls.specs.Operands.{any_value, ints, bools, segs, ItemType, integers, truths, items, over_items, number, count}
+use Rattle.cvl_calls.specs.Conditions.{same_length, has_all, has_each, any_seconds, seconds, is_place, holds_each_place, permutes, lies_within, found}
 
--- d = z x ..
-unfoldable pub set_ints : Operand → Result Effect Fault
-set_ints (NumbersGiven xs) = do
-  fits ← check (nat_le (length xs) item_limit) TooLong
-  Ok (Stores (Ints xs))
-set_ints other = Err WrongType
-
--- d = b T F ..
-unfoldable pub set_bools : Operand → Result Effect Fault
-set_bools (TruthsGiven bs) = do
-  fits ← check (nat_le (length bs) item_limit) TooLong
-  Ok (Stores (Bools bs))
-set_bools other = Err WrongType
+-- d = z x .., d = b T F ..
+unfoldable pub set : {X : Type 0} → ℕ → ItemType X → Operand → Result Effect Fault
+set limit type a = do
+  xs ← type.listed a
+  fits ← check (nat_le (length xs) limit) TooLong
+  Ok (Stores (type.vector xs))
 
 -- get a
 unfoldable pub get : Operand → Result Effect Fault
@@ -77,9 +62,9 @@ free a = do
   Ok Frees
 
 -- d = alo_foz n
-unfoldable pub alo : Operand → Result Effect Fault
-alo n = do
-  many ← count n
+unfoldable pub alo : ℕ → Operand → Result Effect Fault
+alo limit n = do
+  many ← count limit n
   Ok (Stores (Ints (replicate many (pos 0))))
 
 -- len_fov a
@@ -89,11 +74,11 @@ len a = do
   Ok (Answers (IntOf (pos (size_of v))))
 
 -- d = mke_fov a
-unfoldable pub make_segs : Operand → Result Effect Fault
-make_segs a = do
+unfoldable pub make_segs : ℕ → Operand → Result Effect Fault
+make_segs limit a = do
   xs ← ints a
   lengths ← check (not (has_negative xs)) BadSegments
-  fits ← check (nat_le (sum (sizes xs)) item_limit) TooLong
+  fits ← check (nat_le (sum (sizes xs)) limit) TooLong
   Ok (Stores (Segs (sizes xs)))
 
 -- d = len_fos s
@@ -102,144 +87,65 @@ len_segs s = do
   ls ← segs s
   Ok (Stores (Ints (map pos ls)))
 
--- d = OP_wuz a b, OP of add sub mul div mod max min and ior xor lsh rsh
-unfoldable pub map_ints : Z2 → Operand → Operand → Result Effect Fault
-map_ints op a b = do
-  xs ← ints a
-  ys ← ints b
+-- d = OP_wuz a b, d = OP_wub a b: of the type `of` and into the type `to`, where the second operands may be `taken`
+unfoldable pub map_two : {X Y : Type 0} → ItemType X → ItemType Y → (List X → Result (Unit {0}) Fault) → (X → X → Y) → Operand → Operand → Result Effect Fault
+map_two of to taken op a b = do
+  xs ← of.read a
+  ys ← of.read b
   same ← same_length (length xs) (length ys)
-  taken ← seconds op ys
-  Ok (Stores (Ints (item_by_item (apply_z op) xs ys)))
+  allowed ← taken ys
+  Ok (Stores (to.vector (item_by_item op xs ys)))
 
--- d = not_wuz a, d = cpy_wuz a
-unfoldable pub alter_ints : Z1 → Operand → Result Effect Fault
-alter_ints op a = do
-  xs ← ints a
-  Ok (Stores (Ints (map (alter_z op) xs)))
+-- d = not_wuz a, d = cpy_wuz a, d = not_wub a, d = cpy_wub a, d = boo_wuz a, d = int_wub a
+unfoldable pub map_one : {X Y : Type 0} → ItemType X → ItemType Y → (X → Y) → Operand → Result Effect Fault
+map_one of to op a = do
+  xs ← of.read a
+  Ok (Stores (to.vector (map op xs)))
 
--- d = OP_wuz a b, OP of eql neq les leq grt geq
-unfoldable pub compare : Cmp → Operand → Operand → Result Effect Fault
-compare op a b = do
-  xs ← ints a
-  ys ← ints b
-  same ← same_length (length xs) (length ys)
-  Ok (Stores (Bools (item_by_item (compares op) xs ys)))
-
--- d = sel_wuz f a b
-unfoldable pub select_ints : Operand → Operand → Operand → Result Effect Fault
-select_ints f a b = do
+-- d = sel_wuz f a b, d = sel_wub f a b
+unfoldable pub select : {X : Type 0} → ItemType X → Operand → Operand → Operand → Result Effect Fault
+select type f a b = do
   flags ← bools f
-  xs ← ints a
-  ys ← ints b
+  xs ← type.read a
+  ys ← type.read b
   first ← same_length (length flags) (length xs)
   second ← same_length (length flags) (length ys)
-  Ok (Stores (Ints (selected flags xs ys)))
+  Ok (Stores (type.vector (selected flags xs ys)))
 
--- d = OP_wub a b
-unfoldable pub map_bools : B2 → Operand → Operand → Result Effect Fault
-map_bools op a b = do
-  xs ← bools a
-  ys ← bools b
-  same ← same_length (length xs) (length ys)
-  Ok (Stores (Bools (item_by_item (apply_b op) xs ys)))
+-- d = OP_suz a, d = OP_sub a
+unfoldable pub scan : {X : Type 0} → ItemType X → (X → X → X) → X → Operand → Result Effect Fault
+scan type op unit a = do
+  xs ← type.read a
+  Ok (Stores (type.vector (scanned op unit xs)))
 
--- d = not_wub a, d = cpy_wub a
-unfoldable pub alter_bools : B1 → Operand → Result Effect Fault
-alter_bools op a = do
-  xs ← bools a
-  Ok (Stores (Bools (map (alter_b op) xs)))
-
--- d = sel_wub f a b
-unfoldable pub select_bools : Operand → Operand → Operand → Result Effect Fault
-select_bools f a b = do
-  flags ← bools f
-  xs ← bools a
-  ys ← bools b
-  first ← same_length (length flags) (length xs)
-  second ← same_length (length flags) (length ys)
-  Ok (Stores (Bools (selected flags xs ys)))
-
--- d = boo_wuz a
-unfoldable pub truths_of : Operand → Result Effect Fault
-truths_of a = do
-  xs ← ints a
-  Ok (Stores (Bools (map is_true xs)))
-
--- d = int_wub a
-unfoldable pub numbers_of : Operand → Result Effect Fault
-numbers_of a = do
-  xs ← bools a
-  Ok (Stores (Ints (map as_number xs)))
-
--- d = OP_suz a
-unfoldable pub scan_ints : ScanZ → Operand → Result Effect Fault
-scan_ints op a = do
-  xs ← ints a
-  Ok (Stores (Ints (scanned (combine_z op) (unit_z op) xs)))
-
--- d = OP_sub a
-unfoldable pub scan_bools : ScanB → Operand → Result Effect Fault
-scan_bools op a = do
-  xs ← bools a
-  Ok (Stores (Bools (scanned (combine_b op) (unit_b op) xs)))
-
--- d = OP_sez a s
-unfoldable pub scan_int_segments : ScanZ → Operand → Operand → Result Effect Fault
-scan_int_segments op a s = do
-  xs ← ints a
+-- d = OP_sez a s, d = OP_seb a s
+unfoldable pub scan_segments : {X : Type 0} → ItemType X → (X → X → X) → X → Operand → Operand → Result Effect Fault
+scan_segments type op unit a s = do
+  xs ← type.read a
   ls ← segs s
   all ← has_all ls (length xs)
-  Ok (Stores (Ints (segmented_scan (combine_z op) (unit_z op) ls xs)))
+  Ok (Stores (type.vector (segmented_scan op unit ls xs)))
 
--- d = OP_seb a s
-unfoldable pub scan_bool_segments : ScanB → Operand → Operand → Result Effect Fault
-scan_bool_segments op a s = do
-  xs ← bools a
+-- OP_ruz a, OP_rub a
+unfoldable pub reduce : {X : Type 0} → ItemType X → (X → X → X) → X → Operand → Result Effect Fault
+reduce type op unit a = do
+  xs ← type.read a
+  Ok (Answers (type.answer (reduced op unit xs)))
+
+-- d = OP_rez a s, d = OP_reb a s
+unfoldable pub reduce_segments : {X : Type 0} → ItemType X → (X → X → X) → X → Operand → Operand → Result Effect Fault
+reduce_segments type op unit a s = do
+  xs ← type.read a
   ls ← segs s
   all ← has_all ls (length xs)
-  Ok (Stores (Bools (segmented_scan (combine_b op) (unit_b op) ls xs)))
+  Ok (Stores (type.vector (segmented_reduce op unit ls xs)))
 
--- OP_ruz a
-unfoldable pub reduce_ints : ScanZ → Operand → Result Effect Fault
-reduce_ints op a = do
-  xs ← ints a
-  Ok (Answers (IntOf (reduced (combine_z op) (unit_z op) xs)))
-
--- OP_rub a
-unfoldable pub reduce_bools : ScanB → Operand → Result Effect Fault
-reduce_bools op a = do
-  xs ← bools a
-  Ok (Answers (BoolOf (reduced (combine_b op) (unit_b op) xs)))
-
--- d = OP_rez a s
-unfoldable pub reduce_int_segments : ScanZ → Operand → Operand → Result Effect Fault
-reduce_int_segments op a s = do
-  xs ← ints a
-  ls ← segs s
-  all ← has_all ls (length xs)
-  Ok (Stores (Ints (segmented_reduce (combine_z op) (unit_z op) ls xs)))
-
--- d = OP_reb a s
-unfoldable pub reduce_bool_segments : ScanB → Operand → Operand → Result Effect Fault
-reduce_bool_segments op a s = do
-  xs ← bools a
-  ls ← segs s
-  all ← has_all ls (length xs)
-  Ok (Stores (Bools (segmented_reduce (combine_b op) (unit_b op) ls xs)))
-
--- d = dis_vuz x n
-unfoldable pub repeat_int : Operand → Operand → Result Effect Fault
-repeat_int x n = do
-  item ← number x
-  many ← count n
-  Ok (Stores (Ints (replicate many item)))
-
--- d = dis_vub x n
-unfoldable pub repeat_bool : Operand → Operand → Result Effect Fault
-repeat_bool x n = do
-  item ← truth x
-  many ← count n
-  Ok (Stores (Bools (replicate many item)))
+-- d = dis_vuz x n, d = dis_vub x n
+unfoldable pub repeat : {X : Type 0} → ℕ → ItemType X → Operand → Operand → Result Effect Fault
+repeat limit type x n = do
+  item ← type.one x
+  many ← count limit n
+  Ok (Stores (type.vector (replicate many item)))
 
 -- d = dis_vez a s, d = dis_veb a s
 unfoldable pub distribute : Kind → Operand → Operand → Result Effect Fault
@@ -250,11 +156,11 @@ distribute kind a s = do
   Ok (Stores (over_items (λ X xs. distributed ls xs) v))
 
 -- d = ind_luz u v n
-unfoldable pub index : Operand → Operand → Operand → Result Effect Fault
-index u v n = do
+unfoldable pub index : ℕ → Operand → Operand → Operand → Result Effect Fault
+index limit u v n = do
   start ← number u
   stride ← number v
-  many ← count n
+  many ← count limit n
   Ok (Stores (Ints (indexed start stride many)))
 
 -- d = ind_lez a b s
@@ -359,28 +265,28 @@ abbrev pub ask : AskWord → Operand → Result Effect Fault
 ask asks.Get a = get a
 ask asks.Free a = free a
 ask asks.Len a = len a
-ask (asks.RedZ op) a = reduce_ints op a
-ask (asks.RedB op) a = reduce_bools op a
+ask (asks.RedZ op) a = reduce integers (combine_z op) (unit_z op) a
+ask (asks.RedB op) a = reduce truths (combine_b op) (unit_b op) a
 
-abbrev pub of_one : OneWord → Operand → Result Effect Fault
-of_one ones.Mov a = mov a
-of_one ones.MakeSegs a = make_segs a
-of_one ones.LenSegs s = len_segs s
-of_one (ones.MapZ1 op) a = alter_ints op a
-of_one (ones.MapB1 op) a = alter_bools op a
-of_one ones.Boo a = truths_of a
-of_one ones.IntOf a = numbers_of a
-of_one (ones.ScanZ op) a = scan_ints op a
-of_one (ones.ScanB op) a = scan_bools op a
+abbrev pub of_one : ℕ → OneWord → Operand → Result Effect Fault
+of_one limit ones.Mov a = mov a
+of_one limit ones.MakeSegs a = make_segs limit a
+of_one limit ones.LenSegs s = len_segs s
+of_one limit (ones.MapZ1 op) a = map_one integers integers (alter_z op) a
+of_one limit (ones.MapB1 op) a = map_one truths truths (alter_b op) a
+of_one limit ones.Boo a = map_one integers truths is_true a
+of_one limit ones.IntOf a = map_one truths integers as_number a
+of_one limit (ones.ScanZ op) a = scan integers (combine_z op) (unit_z op) a
+of_one limit (ones.ScanB op) a = scan truths (combine_b op) (unit_b op) a
 
 abbrev pub of_two : TwoWord → Operand → Operand → Result Effect Fault
-of_two (twos.MapZ2 op) a b = map_ints op a b
-of_two (twos.CmpZ op) a b = compare op a b
-of_two (twos.MapB2 op) a b = map_bools op a b
-of_two (twos.ScanSegZ op) a s = scan_int_segments op a s
-of_two (twos.ScanSegB op) a s = scan_bool_segments op a s
-of_two (twos.RedSegZ op) a s = reduce_int_segments op a s
-of_two (twos.RedSegB op) a s = reduce_bool_segments op a s
+of_two (twos.MapZ2 op) a b = map_two integers integers (seconds op) (apply_z op) a b
+of_two (twos.CmpZ op) a b = map_two integers truths any_seconds (compares op) a b
+of_two (twos.MapB2 op) a b = map_two truths truths any_seconds (apply_b op) a b
+of_two (twos.ScanSegZ op) a s = scan_segments integers (combine_z op) (unit_z op) a s
+of_two (twos.ScanSegB op) a s = scan_segments truths (combine_b op) (unit_b op) a s
+of_two (twos.RedSegZ op) a s = reduce_segments integers (combine_z op) (unit_z op) a s
+of_two (twos.RedSegB op) a s = reduce_segments truths (combine_b op) (unit_b op) a s
 of_two (twos.DisSeg kind) a s = distribute kind a s
 of_two (twos.Smp kind) a i = permute kind a i
 of_two (twos.Bck kind) a i = gather kind a i
@@ -388,24 +294,24 @@ of_two (twos.Pck kind) a f = pack kind a f
 of_two twos.Pkl f s = pack_lengths f s
 
 abbrev pub of_three : ThreeWord → Operand → Operand → Operand → Result Effect Fault
-of_three (threes.Sel kinds.Z) f a b = select_ints f a b
-of_three (threes.Sel kinds.B) f a b = select_bools f a b
+of_three (threes.Sel kinds.Z) f a b = select integers f a b
+of_three (threes.Sel kinds.B) f a b = select truths f a b
 of_three threes.IndSeg a b s = index_segments a b s
 of_three (threes.SmpSeg kind) a i s = permute_segments kind a i s
 of_three (threes.PckSeg kind) a f s = pack_segments kind a f s
 
 -- the result of a call, or its first fault
-abbrev pub work : Word → List Operand → Result Effect Fault
-work words.SetInts os = set_ints (operand os 0)
-work words.SetBools os = set_bools (operand os 0)
-work (words.Ask word) os = ask word (operand os 0)
-work (words.One word) os = of_one word (operand os 0)
-work (words.Two word) os = of_two word (operand os 0) (operand os 1)
-work (words.Three word) os = of_three word (operand os 0) (operand os 1) (operand os 2)
-work (words.BckSeg kind) os = gather_segments kind (operand os 0) (operand os 1) (operand os 2) (operand os 3)
-work words.Alo os = alo (operand os 0)
-work words.DisZ os = repeat_int (operand os 0) (operand os 1)
-work words.DisB os = repeat_bool (operand os 0) (operand os 1)
-work words.Ind os = index (operand os 0) (operand os 1) (operand os 2)
-work words.Ext os = extract (operand os 0) (operand os 1)
-work words.Rep os = replace (operand os 0) (operand os 1) (operand os 2)
+abbrev pub work : ℕ → Word → List Operand → Result Effect Fault
+work limit words.SetInts os = set limit integers (operand os 0)
+work limit words.SetBools os = set limit truths (operand os 0)
+work limit (words.Ask word) os = ask word (operand os 0)
+work limit (words.One word) os = of_one limit word (operand os 0)
+work limit (words.Two word) os = of_two word (operand os 0) (operand os 1)
+work limit (words.Three word) os = of_three word (operand os 0) (operand os 1) (operand os 2)
+work limit (words.BckSeg kind) os = gather_segments kind (operand os 0) (operand os 1) (operand os 2) (operand os 3)
+work limit words.Alo os = alo limit (operand os 0)
+work limit words.DisZ os = repeat limit integers (operand os 0) (operand os 1)
+work limit words.DisB os = repeat limit truths (operand os 0) (operand os 1)
+work limit words.Ind os = index limit (operand os 0) (operand os 1) (operand os 2)
+work limit words.Ext os = extract (operand os 0) (operand os 1)
+work limit words.Rep os = replace (operand os 0) (operand os 1) (operand os 2)

@@ -4,15 +4,15 @@
 ghost use Rattle.std.specs.Prelude.{[], ◌≡◌, ◌∷◌, length, sum, true, All, IfOk, OnOk};
 ghost use Rattle.std.specs.List.{list_all};
 ghost use Rattle.scan_kernels.specs.IntegerOps.{IsAllowed, IsDivisor, IsShift};
-ghost use Rattle.permute_kernels.specs.Indices.{LieWithin, PermuteSegments};
+ghost use Rattle.permute_kernels.specs.Indices.{HoldsEachPlaceOnce, IsPlaceOf, LieWithin, PermuteSegments};
 ghost use Rattle.cvl_calls.specs.Outcomes.{GivesBy, check};
-ghost use Rattle.cvl_calls.specs.Conditions.{has_all, has_each, is_divisor, is_shift, lies_within, permutes, same_length, seconds};
+ghost use Rattle.cvl_calls.specs.Conditions.{has_all, has_each, holds_each_place, is_divisor, is_place, is_shift, lies_within, permutes, same_length, seconds};
 
 use crate::stop::Stop;
 use cvl_text::{Fault, Z2};
-use permute_kernels::{in_range, is_permutation};
+use permute_kernels::{are_places, in_range, is_permutation, is_whole_permutation};
 use scan_kernels::{divisors_ok, shifts_ok};
-use segment_desc::{OutOfMemory, Segd};
+use segment_desc::Segd;
 use std::alloc::Global;
 
 /// Two vectors are as long as one another.
@@ -108,6 +108,31 @@ pub(crate) fn permutes(alloc: Global, places: &[i64], segments: &Segd) -> Result
     }
 }
 
+/// The index holds each of its own places once.
+pub(crate) fn permutes_whole(alloc: Global, places: &[i64]) -> Result<(), Stop>
+    ensures fault { GivesBy true (λ u. u) result (check (holds_each_place places.now) Fault.BadIndex) }
+    ensures holds { OnOk result (HoldsEachPlaceOnce places.now) }
+{
+    let each = is_whole_permutation(alloc, places)?;
+    if each {
+        Ok(())
+    } else {
+        Err(Stop::Fault(Fault::BadIndex))
+    }
+}
+
+/// The index holds places of a list of so many items.
+pub(crate) fn within(places: &[i64], items: usize) -> Result<(), Fault>
+    ensures fault { result ≡ check (list_all (is_place items) places.now) Fault.BadIndex }
+    ensures holds { OnOk result (All (IsPlaceOf items) places.now) }
+{
+    if are_places(places, items) {
+        Ok(())
+    } else {
+        Err(Fault::BadIndex)
+    }
+}
+
 /// Each segment of the index holds places of the segment of the source that has its number.
 pub(crate) fn lies_within(places: &[i64], source: &Segd, by: &Segd) -> Result<(), Fault>
     requires counts { length source.now ≡ length by.now }
@@ -120,11 +145,4 @@ pub(crate) fn lies_within(places: &[i64], source: &Segd, by: &Segd) -> Result<()
     } else {
         Err(Fault::BadIndex)
     }
-}
-
-/// The segment list of one segment, which has all items.
-pub(crate) fn one_segment(alloc: Global, items: usize) -> Result<Segd, OutOfMemory>
-    ensures { IfOk result (λ segments. segments ≡ items ∷ []) }
-{
-    Segd::one(alloc, items as u64).map_err(|_| OutOfMemory)
 }

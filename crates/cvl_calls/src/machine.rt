@@ -3,21 +3,43 @@ ghost use Rattle.vector_memory.specs.Contents.{content_of};
 ghost use Rattle.vector_memory.specs.States.{FitsLimits, refusal};
 ghost use Rattle.cvl_text.specs.Answers.{answer_of};
 ghost use Rattle.cvl_text.specs.Tasks.{task_of};
-ghost use Rattle.cvl_calls.specs.Outcomes.{effect_of, IsFittingEffect};
+ghost use Rattle.cvl_calls.specs.Outcomes.{Counts, GivesBy, IsAnswered, IsFittingEffect, effect_of, operands_of};
 ghost use Rattle.cvl_calls.specs.Steps.{Grows, MayLackMemory, applied, stepped, stored};
-ghost use Rattle.cvl_calls.specs.Runs.{TakesNoMemory};
+ghost use Rattle.cvl_calls.specs.Work.{work};
+ghost use Rattle.cvl_calls.specs.Runs.{TakesNoMemory, runs_kernel, tests_index};
 
-use crate::dispatch::work;
+use crate::judging::judge;
 use crate::product::Product;
+use crate::running::run;
 use crate::stop::Stop;
 use cvl_text::{Call, Fault, Reply, target};
-use scan_kernels::Meter;
+use scan_kernels::{Execution, Meter};
 use std::alloc::Global;
-use std::thread::Threads;
 use vector_memory::{Memory, Name, OutOfMemory, StoreFault, Value};
 
+/// The result of a call, or its first fault, from the values that it reads: `judge`, and then `run`. Nothing is written.
+/// The meter rises by one where a kernel ran: with a result, of each call but the forms of set, `get`, `mov_fov`, `fre_fov`,
+/// `alo_foz`, `len_fov`, `mke_fov`, `len_fos`, `ext_vuz` and `rep_vuz`. Of these, `fre_fov`, `len_fov` and `ext_vuz` take no
+/// memory.
+pub fn work(
+    execution: &impl Execution,
+    alloc: Global,
+    meter: &mut Meter,
+    memory: &Memory,
+    call: &Call,
+) -> Result<Product, Stop>
+    ensures gives { let task = task_of call.now in
+        GivesBy (tests_index task.word) effect_of result (work memory.now.limit task.word (operands_of memory.now task.arguments)) }
+    ensures answered { TakesNoMemory (task_of call.now).word → IsAnswered result }
+    ensures counted { Counts (runs_kernel (task_of call.now).word) result meter.old meter.new }
+    ensures fits { IfOk result (λ product. IsFittingEffect memory.now.limit (effect_of product)) }
+{
+    let judged = judge(alloc, memory, call)?;
+    Ok(run(execution, alloc, meter, judged)?)
+}
+
 fn store(memory: &mut Memory, to: Name, value: Value) -> Result<Reply, OutOfMemory>
-    requires { FitsLimits (content_of value) }
+    requires { FitsLimits memory.old.limit (content_of value) }
     ensures ok { IfOk result (λ reply. stored memory.old to (content_of value)
         ≡ record { memory = memory.new; answer = answer_of reply }) }
     ensures grows { OnErr result (refusal memory.old to (content_of value) ≡ None) }
@@ -34,7 +56,7 @@ fn store(memory: &mut Memory, to: Name, value: Value) -> Result<Reply, OutOfMemo
 /// Stores at the target what a call made of its operands, takes the target away, or hands the reply on. The value is one
 /// that `work` made, within the limits of a value. A refused store is a fault, and it and a want of memory leave the memory as it was.
 pub fn apply(memory: &mut Memory, to: Option<Name>, product: Product) -> Result<Reply, OutOfMemory>
-    requires { IsFittingEffect (effect_of product) }
+    requires { IsFittingEffect memory.old.limit (effect_of product) }
     ensures ok { IfOk result (λ reply. applied memory.old to (effect_of product)
         ≡ record { memory = memory.new; answer = answer_of reply }) }
     ensures grows { OnErr result (Grows memory.old to (effect_of product)) }
@@ -58,7 +80,7 @@ pub fn apply(memory: &mut Memory, to: Option<Name>, product: Product) -> Result<
 /// Runs a call on a memory: `work`, and then `apply`. A fault is a reply, and it and a want of memory leave the memory as it was.
 /// `fre_fov`, `len_fov` and `ext_vuz` take no memory, and are always answered.
 pub fn step(
-    rt: &(impl Threads + Sync),
+    execution: &impl Execution,
     alloc: Global,
     memory: &mut Memory,
     call: &Call,
@@ -69,8 +91,7 @@ pub fn step(
     ensures answered { TakesNoMemory (task_of call.now).word → IsOk result }
     ensures err { OnErr result (memory.new ≡ memory.old) }
 {
-    let _room = memory.room();
-    match work(rt, alloc, &mut Meter::new(), memory, call) {
+    match work(execution, alloc, &mut Meter::new(), memory, call) {
         Ok(product) => apply(memory, target(call), product),
         Err(Stop::Fault(fault)) => Ok(Reply::Fault(fault)),
         Err(Stop::OutOfMemory) => Err(OutOfMemory),

@@ -3,18 +3,18 @@
 ghost use Rattle.std.specs.Prelude.{◌≡◌, ◌≤◌, ◌<◌, ◌^◌, length, nat_le, IfOk};
 ghost use Rattle.segment_desc.specs.Lengths.{IsWithin};
 ghost use Rattle.vector_memory.specs.Contents.{content_of, size_of};
-ghost use Rattle.vector_memory.specs.States.{FitsLimits, item_limit, value_at};
+ghost use Rattle.vector_memory.specs.States.{FitsLimits, value_at};
 ghost use Rattle.cvl_calls.specs.Outcomes.{Held, NumberGiven, check, viewed};
 ghost use Rattle.cvl_calls.specs.Operands.{any_value, bools, count, ints, items, segs};
-ghost use Rattle.cvl_calls.specs.Views.{vector_of};
+ghost use Rattle.cvl_calls.specs.Views.{kind_of, vector_of};
 
 use cvl_text::{Fault, Kind};
 use segment_desc::Segd;
-use vector_memory::{ITEM_LIMIT, Memory, Name, Value};
+use vector_memory::{Memory, Name, Value};
 
-/// The items of a vector, as they lie in the memory.
+/// The items of a vector of either type, as they lie in the memory.
 #[derive(Clone, Copy)]
-pub(crate) enum Vector<'a> {
+pub enum Vector<'a> {
     Ints(&'a [i64]),
     Bools(&'a [bool]),
 }
@@ -34,7 +34,7 @@ impl Vector<'_> {
 /// The value of a name, of any type.
 pub(crate) fn any_value<'a>(memory: &'a Memory, a: &Name) -> Result<&'a Value, Fault>
     ensures value { viewed (λ v. content_of v.now) result ≡ any_value (Held (value_at memory.now a.now)) }
-    ensures fits { IfOk result (λ v. FitsLimits (content_of v.now)) }
+    ensures fits { IfOk result (λ v. FitsLimits memory.now.limit (content_of v.now)) }
 {
     memory.get(a).ok_or(Fault::NoVector)
 }
@@ -42,7 +42,7 @@ pub(crate) fn any_value<'a>(memory: &'a Memory, a: &Name) -> Result<&'a Value, F
 /// The integers of a name.
 pub(crate) fn ints<'a>(memory: &'a Memory, a: &Name) -> Result<&'a [i64], Fault>
     ensures items { viewed (λ xs. xs.now) result ≡ ints (Held (value_at memory.now a.now)) }
-    ensures short { IfOk result (λ xs. length xs.now ≤ item_limit) }
+    ensures short { IfOk result (λ xs. length xs.now ≤ memory.now.limit) }
 {
     match any_value(memory, a)? {
         Value::Ints(items) => Ok(items.as_slice()),
@@ -75,7 +75,8 @@ pub(crate) fn segs<'a>(memory: &'a Memory, s: &Name) -> Result<&'a Segd, Fault>
 
 /// The items of a name, which are of this type.
 pub(crate) fn items<'a>(memory: &'a Memory, kind: Kind, a: &Name) -> Result<Vector<'a>, Fault>
-    ensures { viewed vector_of result ≡ items kind (Held (value_at memory.now a.now)) }
+    ensures items { viewed vector_of result ≡ items kind (Held (value_at memory.now a.now)) }
+    ensures kind { IfOk result (λ items. kind_of items ≡ kind) }
 {
     match kind {
         Kind::Z => Ok(Vector::Ints(ints(memory, a)?)),
@@ -83,11 +84,11 @@ pub(crate) fn items<'a>(memory: &'a Memory, kind: Kind, a: &Name) -> Result<Vect
     }
 }
 
-/// A value has at most `ITEM_LIMIT` items.
-pub(crate) fn check_length(len: usize) -> Result<(), Fault>
-    ensures { result ≡ check (nat_le len item_limit) Fault.TooLong }
+/// A value has no more items than the limit.
+pub(crate) fn check_length(limit: usize, len: usize) -> Result<(), Fault>
+    ensures { result ≡ check (nat_le len limit) Fault.TooLong }
 {
-    if len <= ITEM_LIMIT {
+    if len <= limit {
         Ok(())
     } else {
         Err(Fault::TooLong)
@@ -95,13 +96,13 @@ pub(crate) fn check_length(len: usize) -> Result<(), Fault>
 }
 
 /// The number of items that a number asks for.
-pub(crate) fn count(n: i64) -> Result<usize, Fault>
-    ensures { viewed (λ k. k) result ≡ count (NumberGiven n) }
+pub(crate) fn count(limit: usize, n: i64) -> Result<usize, Fault>
+    ensures { viewed (λ k. k) result ≡ count limit (NumberGiven n) }
 {
     if n < 0 {
         return Err(Fault::WrongLength);
     }
     let count = n as usize;
-    check_length(count)?;
+    check_length(limit, count)?;
     Ok(count)
 }

@@ -1,7 +1,10 @@
 //! Each public function with ample memory. What each call replies is tested as scripts, above this crate.
 
-use crate::{Call, Fault, Product, Reply, Stop, apply, step, work};
-use scan_kernels::Meter;
+use crate::{
+    Call, Fault, Judged, Product, Reply, Stop, alike, apply, call_word, check, judge, run,
+    runs_kernel, step, work,
+};
+use scan_kernels::{Meter, Sequential};
 use std::alloc::Global;
 use std::test::Fail;
 use std::thread::Threads;
@@ -135,5 +138,65 @@ fn applies_a_product(rt: HostRuntime) -> Result<(), Fail> {
     assert!(rt; matches!(stored, Reply::Done) && memory.cells() == 2);
     let freed = apply(&mut memory, to, Product::Free)?;
     assert!(rt; matches!(freed, Reply::Done) && memory.is_empty());
+    Ok(())
+}
+
+#[test]
+fn checks_before_anything_is_made(rt: HostRuntime) -> Result<(), Fail> {
+    let mut memory = Memory::new(rt.alloc(), ROOM)?;
+    assert!(rt; replies(&rt, rt.alloc(), &mut memory, b"a = z 2 0 1", b"ok")?);
+    assert!(rt; replies(&rt, rt.alloc(), &mut memory, b"b = z 0 3", b"ok")?);
+    for (line, fault) in [
+        (b"c = add_wuz a a".as_slice(), None),
+        (b"c = add_wuz a b", Some(Fault::WrongLength)),
+        (b"c = div_wuz b c", Some(Fault::NoVector)),
+        (b"c = div_wuz a a", Some(Fault::ZeroDivisor)),
+        (b"c = bck_puz b a", Some(Fault::BadIndex)),
+        (b"c = bck_puz a a", None),
+        (b"c = smp_puz a b", Some(Fault::WrongLength)),
+        (b"c = smp_puz a a", None),
+        (b"c = alo_foz 2000", None),
+    ] {
+        let call = Call::read(rt.alloc(), line)?;
+        assert!(rt; check(rt.alloc(), &memory, &call)? == fault, "{line:?}");
+    }
+    Ok(())
+}
+
+#[test]
+fn runs_what_was_judged(rt: HostRuntime) -> Result<(), Fail> {
+    let mut memory = Memory::new(rt.alloc(), ROOM)?;
+    assert!(rt; replies(&rt, rt.alloc(), &mut memory, b"a = z 2 0 1", b"ok")?);
+    let call = Call::read(rt.alloc(), b"add_ruz a")?;
+    let mut meter = Meter::new();
+    let Ok(judged) = judge(rt.alloc(), &memory, &call) else {
+        return Err("a fault")?;
+    };
+    assert!(rt; matches!(judged, Judged::ReduceInts(_, [2, 0, 1])));
+    let product = run(&Sequential, rt.alloc(), &mut meter, judged)?;
+    assert!(rt; matches!(product, Product::Reply(Reply::Int(3))) && meter.runs() == 1);
+    Ok(())
+}
+
+#[test]
+fn knows_alike_calls(rt: HostRuntime) -> Result<(), Fail> {
+    for (one, other, are_alike) in [
+        (
+            b"a = add_wuz b c".as_slice(),
+            b"d = add_wuz e f".as_slice(),
+            true,
+        ),
+        (b"a = add_wuz b c", b"d = sub_wuz e f", false),
+        (b"a = add_suz b", b"d = add_suz e", true),
+        (b"a = add_suz b", b"d = add_sez e f", false),
+        (b"a = pck_puz b c", b"d = pck_pub e f", false),
+        (b"a = mov_fov b", b"d = mov_fov e", false),
+        (b"a = z 1", b"d = z 1", false),
+    ] {
+        let one = Call::read(rt.alloc(), one)?;
+        let other = Call::read(rt.alloc(), other)?;
+        assert!(rt; alike(&one, &other) == are_alike, "{one:?}");
+        assert!(rt; !are_alike || runs_kernel(call_word(&one)), "{one:?}");
+    }
     Ok(())
 }

@@ -1,189 +1,149 @@
 //! Item by item.
 
-ghost use Rattle.std.specs.Prelude.{true};
+ghost use Rattle.std.specs.Prelude.{◌≡◌, IfOk};
+ghost use Rattle.scan_kernels.specs.BooleanOps.{alter_b, apply_b};
+ghost use Rattle.scan_kernels.specs.Elementwise.{as_number, is_true};
+ghost use Rattle.scan_kernels.specs.IntegerOps.{alter_z, apply_z, compares};
 ghost use Rattle.vector_memory.specs.States.{value_at};
-ghost use Rattle.cvl_calls.specs.Outcomes.{Counts, Gives, Held, effect_of};
-ghost use Rattle.cvl_calls.specs.Work.{alter_bools, alter_ints, compare, map_bools, map_ints, numbers_of, select_bools, select_ints, truths_of};
+ghost use Rattle.cvl_text.specs.declared.word.Kind.TheVariants as kinds;
+ghost use Rattle.cvl_text.specs.declared.word.OneWord.TheVariants as ones;
+ghost use Rattle.cvl_text.specs.declared.word.ThreeWord.TheVariants as threes;
+ghost use Rattle.cvl_text.specs.declared.word.TwoWord.TheVariants as twos;
+ghost use Rattle.cvl_text.specs.declared.word.Word.TheVariants as words;
+ghost use Rattle.cvl_calls.specs.Conditions.{any_seconds, seconds};
+ghost use Rattle.cvl_calls.specs.Judging.{IsReady, made, word_of};
+ghost use Rattle.cvl_calls.specs.Operands.{integers, truths};
+ghost use Rattle.cvl_calls.specs.Outcomes.{Held, viewed};
+ghost use Rattle.cvl_calls.specs.Work.{map_one, map_two, select};
 
 use crate::conditions::{same_length, seconds};
+use crate::judged::Judged;
 use crate::operands::{bools, ints};
-use crate::product::Product;
-use crate::stop::Stop;
-use cvl_text::{B1, B2, Cmp, Z1, Z2};
-use scan_kernels::{
-    Meter, compare2, map1_b, map1_z, map2_b, map2_z, number, select_b, select_z, truth,
-};
-use std::alloc::Global;
-use std::thread::Threads;
-use vector_memory::{Memory, Name, Value};
+use cvl_text::{B1, B2, Cmp, Fault, Z1, Z2};
+use vector_memory::{Memory, Name};
 
-#[tactic(auto, unfolding(crate::specs::Work::map_ints))]
-pub(crate) fn map_ints(
-    rt: &(impl Threads + Sync),
-    alloc: Global,
-    meter: &mut Meter,
-    memory: &Memory,
+#[tactic(auto, unfolding(crate::specs::Work::map_two))]
+pub(crate) fn map_ints<'a>(
+    memory: &'a Memory,
     op: Z2,
     a: &Name,
     b: &Name,
-) -> Result<Product, Stop>
-    ensures gives { Gives effect_of result (map_ints op (Held (value_at memory.now a.now)) (Held (value_at memory.now b.now))) }
-    ensures counted { Counts true result meter.old meter.new }
+) -> Result<Judged<'a>, Fault>
+    ensures gives { viewed made result ≡ map_two integers integers (seconds op) (apply_z op) (Held (value_at memory.now a.now)) (Held (value_at memory.now b.now)) }
+    ensures word { IfOk result (λ judged. word_of judged ≡ words.Two (twos.MapZ2 op)) }
+    ensures ready { IfOk result IsReady }
 {
     let xs = ints(memory, a)?;
     let ys = ints(memory, b)?;
     same_length(xs.len(), ys.len())?;
     seconds(op, ys)?;
-    let made = map2_z(rt, alloc, meter, op, xs, ys)?;
-    Ok(Product::Store(Value::Ints(made)))
+    Ok(Judged::MapInts(op, xs, ys))
 }
 
-#[tactic(auto, unfolding(crate::specs::Work::alter_ints))]
-pub(crate) fn alter_ints(
-    rt: &(impl Threads + Sync),
-    alloc: Global,
-    meter: &mut Meter,
-    memory: &Memory,
-    op: Z1,
-    a: &Name,
-) -> Result<Product, Stop>
-    ensures gives { Gives effect_of result (alter_ints op (Held (value_at memory.now a.now))) }
-    ensures counted { Counts true result meter.old meter.new }
-{
-    let xs = ints(memory, a)?;
-    let made = map1_z(rt, alloc, meter, op, xs)?;
-    Ok(Product::Store(Value::Ints(made)))
-}
-
-#[tactic(auto, unfolding(crate::specs::Work::compare))]
-pub(crate) fn compare(
-    rt: &(impl Threads + Sync),
-    alloc: Global,
-    meter: &mut Meter,
-    memory: &Memory,
+#[tactic(auto, unfolding(crate::specs::Work::map_two))]
+pub(crate) fn compare<'a>(
+    memory: &'a Memory,
     op: Cmp,
     a: &Name,
     b: &Name,
-) -> Result<Product, Stop>
-    ensures gives { Gives effect_of result (compare op (Held (value_at memory.now a.now)) (Held (value_at memory.now b.now))) }
-    ensures counted { Counts true result meter.old meter.new }
+) -> Result<Judged<'a>, Fault>
+    ensures gives { viewed made result ≡ map_two integers truths any_seconds (compares op) (Held (value_at memory.now a.now)) (Held (value_at memory.now b.now)) }
+    ensures word { IfOk result (λ judged. word_of judged ≡ words.Two (twos.CmpZ op)) }
+    ensures ready { IfOk result IsReady }
 {
     let xs = ints(memory, a)?;
     let ys = ints(memory, b)?;
     same_length(xs.len(), ys.len())?;
-    let made = compare2(rt, alloc, meter, op, xs, ys)?;
-    Ok(Product::Store(Value::Bools(made)))
+    Ok(Judged::Compare(op, xs, ys))
 }
 
-#[tactic(auto, unfolding(crate::specs::Work::select_ints))]
-pub(crate) fn select_ints(
-    rt: &(impl Threads + Sync),
-    alloc: Global,
-    meter: &mut Meter,
-    memory: &Memory,
-    f: &Name,
-    a: &Name,
-    b: &Name,
-) -> Result<Product, Stop>
-    ensures gives { Gives effect_of result (select_ints (Held (value_at memory.now f.now)) (Held (value_at memory.now a.now)) (Held (value_at memory.now b.now))) }
-    ensures counted { Counts true result meter.old meter.new }
-{
-    let flags = bools(memory, f)?;
-    let xs = ints(memory, a)?;
-    let ys = ints(memory, b)?;
-    same_length(flags.len(), xs.len())?;
-    same_length(flags.len(), ys.len())?;
-    let made = select_z(rt, alloc, meter, flags, xs, ys)?;
-    Ok(Product::Store(Value::Ints(made)))
-}
-
-#[tactic(auto, unfolding(crate::specs::Work::map_bools))]
-pub(crate) fn map_bools(
-    rt: &(impl Threads + Sync),
-    alloc: Global,
-    meter: &mut Meter,
-    memory: &Memory,
+#[tactic(auto, unfolding(crate::specs::Work::map_two))]
+pub(crate) fn map_bools<'a>(
+    memory: &'a Memory,
     op: B2,
     a: &Name,
     b: &Name,
-) -> Result<Product, Stop>
-    ensures gives { Gives effect_of result (map_bools op (Held (value_at memory.now a.now)) (Held (value_at memory.now b.now))) }
-    ensures counted { Counts true result meter.old meter.new }
+) -> Result<Judged<'a>, Fault>
+    ensures gives { viewed made result ≡ map_two truths truths any_seconds (apply_b op) (Held (value_at memory.now a.now)) (Held (value_at memory.now b.now)) }
+    ensures word { IfOk result (λ judged. word_of judged ≡ words.Two (twos.MapB2 op)) }
+    ensures ready { IfOk result IsReady }
 {
     let xs = bools(memory, a)?;
     let ys = bools(memory, b)?;
     same_length(xs.len(), ys.len())?;
-    let made = map2_b(rt, alloc, meter, op, xs, ys)?;
-    Ok(Product::Store(Value::Bools(made)))
+    Ok(Judged::MapBools(op, xs, ys))
 }
 
-#[tactic(auto, unfolding(crate::specs::Work::alter_bools))]
-pub(crate) fn alter_bools(
-    rt: &(impl Threads + Sync),
-    alloc: Global,
-    meter: &mut Meter,
-    memory: &Memory,
-    op: B1,
-    a: &Name,
-) -> Result<Product, Stop>
-    ensures gives { Gives effect_of result (alter_bools op (Held (value_at memory.now a.now))) }
-    ensures counted { Counts true result meter.old meter.new }
+#[tactic(auto, unfolding(crate::specs::Work::map_one))]
+pub(crate) fn alter_ints<'a>(memory: &'a Memory, op: Z1, a: &Name) -> Result<Judged<'a>, Fault>
+    ensures gives { viewed made result ≡ map_one integers integers (alter_z op) (Held (value_at memory.now a.now)) }
+    ensures word { IfOk result (λ judged. word_of judged ≡ words.One (ones.MapZ1 op)) }
+    ensures ready { IfOk result IsReady }
 {
-    let xs = bools(memory, a)?;
-    let made = map1_b(rt, alloc, meter, op, xs)?;
-    Ok(Product::Store(Value::Bools(made)))
+    Ok(Judged::AlterInts(op, ints(memory, a)?))
 }
 
-#[tactic(auto, unfolding(crate::specs::Work::select_bools))]
-pub(crate) fn select_bools(
-    rt: &(impl Threads + Sync),
-    alloc: Global,
-    meter: &mut Meter,
-    memory: &Memory,
+#[tactic(auto, unfolding(crate::specs::Work::map_one))]
+pub(crate) fn alter_bools<'a>(memory: &'a Memory, op: B1, a: &Name) -> Result<Judged<'a>, Fault>
+    ensures gives { viewed made result ≡ map_one truths truths (alter_b op) (Held (value_at memory.now a.now)) }
+    ensures word { IfOk result (λ judged. word_of judged ≡ words.One (ones.MapB1 op)) }
+    ensures ready { IfOk result IsReady }
+{
+    Ok(Judged::AlterBools(op, bools(memory, a)?))
+}
+
+#[tactic(auto, unfolding(crate::specs::Work::map_one))]
+pub(crate) fn truths_of<'a>(memory: &'a Memory, a: &Name) -> Result<Judged<'a>, Fault>
+    ensures gives { viewed made result ≡ map_one integers truths is_true (Held (value_at memory.now a.now)) }
+    ensures word { IfOk result (λ judged. word_of judged ≡ words.One ones.Boo) }
+    ensures ready { IfOk result IsReady }
+{
+    Ok(Judged::TruthsOf(ints(memory, a)?))
+}
+
+#[tactic(auto, unfolding(crate::specs::Work::map_one))]
+pub(crate) fn numbers_of<'a>(memory: &'a Memory, a: &Name) -> Result<Judged<'a>, Fault>
+    ensures gives { viewed made result ≡ map_one truths integers as_number (Held (value_at memory.now a.now)) }
+    ensures word { IfOk result (λ judged. word_of judged ≡ words.One ones.IntOf) }
+    ensures ready { IfOk result IsReady }
+{
+    Ok(Judged::NumbersOf(bools(memory, a)?))
+}
+
+#[tactic(auto, unfolding(crate::specs::Work::select))]
+pub(crate) fn select_ints<'a>(
+    memory: &'a Memory,
     f: &Name,
     a: &Name,
     b: &Name,
-) -> Result<Product, Stop>
-    ensures gives { Gives effect_of result (select_bools (Held (value_at memory.now f.now)) (Held (value_at memory.now a.now)) (Held (value_at memory.now b.now))) }
-    ensures counted { Counts true result meter.old meter.new }
+) -> Result<Judged<'a>, Fault>
+    ensures gives { viewed made result ≡ select integers (Held (value_at memory.now f.now)) (Held (value_at memory.now a.now)) (Held (value_at memory.now b.now)) }
+    ensures word { IfOk result (λ judged. word_of judged ≡ words.Three (threes.Sel kinds.Z)) }
+    ensures ready { IfOk result IsReady }
+{
+    let flags = bools(memory, f)?;
+    let xs = ints(memory, a)?;
+    let ys = ints(memory, b)?;
+    same_length(flags.len(), xs.len())?;
+    same_length(flags.len(), ys.len())?;
+    Ok(Judged::SelectInts(flags, xs, ys))
+}
+
+#[tactic(auto, unfolding(crate::specs::Work::select))]
+pub(crate) fn select_bools<'a>(
+    memory: &'a Memory,
+    f: &Name,
+    a: &Name,
+    b: &Name,
+) -> Result<Judged<'a>, Fault>
+    ensures gives { viewed made result ≡ select truths (Held (value_at memory.now f.now)) (Held (value_at memory.now a.now)) (Held (value_at memory.now b.now)) }
+    ensures word { IfOk result (λ judged. word_of judged ≡ words.Three (threes.Sel kinds.B)) }
+    ensures ready { IfOk result IsReady }
 {
     let flags = bools(memory, f)?;
     let xs = bools(memory, a)?;
     let ys = bools(memory, b)?;
     same_length(flags.len(), xs.len())?;
     same_length(flags.len(), ys.len())?;
-    let made = select_b(rt, alloc, meter, flags, xs, ys)?;
-    Ok(Product::Store(Value::Bools(made)))
-}
-
-#[tactic(auto, unfolding(crate::specs::Work::truths_of))]
-pub(crate) fn truths_of(
-    rt: &(impl Threads + Sync),
-    alloc: Global,
-    meter: &mut Meter,
-    memory: &Memory,
-    a: &Name,
-) -> Result<Product, Stop>
-    ensures gives { Gives effect_of result (truths_of (Held (value_at memory.now a.now))) }
-    ensures counted { Counts true result meter.old meter.new }
-{
-    let xs = ints(memory, a)?;
-    let made = truth(rt, alloc, meter, xs)?;
-    Ok(Product::Store(Value::Bools(made)))
-}
-
-#[tactic(auto, unfolding(crate::specs::Work::numbers_of))]
-pub(crate) fn numbers_of(
-    rt: &(impl Threads + Sync),
-    alloc: Global,
-    meter: &mut Meter,
-    memory: &Memory,
-    a: &Name,
-) -> Result<Product, Stop>
-    ensures gives { Gives effect_of result (numbers_of (Held (value_at memory.now a.now))) }
-    ensures counted { Counts true result meter.old meter.new }
-{
-    let xs = bools(memory, a)?;
-    let made = number(rt, alloc, meter, xs)?;
-    Ok(Product::Store(Value::Ints(made)))
+    Ok(Judged::SelectBools(flags, xs, ys))
 }

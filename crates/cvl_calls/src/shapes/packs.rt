@@ -1,78 +1,65 @@
 //! The items whose flag is set, and how many there are.
 
-ghost use Rattle.std.specs.Prelude.{true};
+ghost use Rattle.std.specs.Prelude.{◌≡◌, IfOk};
 ghost use Rattle.vector_memory.specs.States.{value_at};
-ghost use Rattle.cvl_calls.specs.Outcomes.{Counts, Gives, Held, effect_of};
+ghost use Rattle.cvl_text.specs.declared.word.ThreeWord.TheVariants as threes;
+ghost use Rattle.cvl_text.specs.declared.word.TwoWord.TheVariants as twos;
+ghost use Rattle.cvl_text.specs.declared.word.Word.TheVariants as words;
+ghost use Rattle.cvl_calls.specs.Judging.{IsReady, made, word_of};
+ghost use Rattle.cvl_calls.specs.Outcomes.{Held, viewed};
 ghost use Rattle.cvl_calls.specs.Work.{pack, pack_lengths, pack_segments};
 
 use crate::conditions::{has_all, same_length};
-use crate::items::packed;
+use crate::judged::Judged;
 use crate::operands::{bools, items, segs};
-use crate::product::Product;
-use crate::stop::Stop;
-use cvl_text::Kind;
-use permute_kernels::packed_lengths;
-use scan_kernels::Meter;
-use std::alloc::Global;
-use std::thread::Threads;
-use vector_memory::{Memory, Name, Value};
+use cvl_text::{Fault, Kind};
+use vector_memory::{Memory, Name};
 
 #[tactic(auto, unfolding(crate::specs::Work::pack))]
-pub(crate) fn pack(
-    rt: &(impl Threads + Sync),
-    alloc: Global,
-    meter: &mut Meter,
-    memory: &Memory,
+pub(crate) fn pack<'a>(
+    memory: &'a Memory,
     kind: Kind,
     a: &Name,
     f: &Name,
-) -> Result<Product, Stop>
-    ensures gives { Gives effect_of result (pack kind (Held (value_at memory.now a.now)) (Held (value_at memory.now f.now))) }
-    ensures counted { Counts true result meter.old meter.new }
+) -> Result<Judged<'a>, Fault>
+    ensures gives { viewed made result ≡ pack kind (Held (value_at memory.now a.now)) (Held (value_at memory.now f.now)) }
+    ensures word { IfOk result (λ judged. word_of judged ≡ words.Two (twos.Pck kind)) }
+    ensures ready { IfOk result IsReady }
 {
     let xs = items(memory, kind, a)?;
     let flags = bools(memory, f)?;
     same_length(xs.len(), flags.len())?;
-    Ok(Product::Store(packed(rt, alloc, meter, xs, flags)?))
+    Ok(Judged::Pack(xs, flags))
 }
 
 #[tactic(auto, unfolding(crate::specs::Work::pack_segments))]
-pub(crate) fn pack_segments(
-    rt: &(impl Threads + Sync),
-    alloc: Global,
-    meter: &mut Meter,
-    memory: &Memory,
+pub(crate) fn pack_segments<'a>(
+    memory: &'a Memory,
     kind: Kind,
     a: &Name,
     f: &Name,
     s: &Name,
-) -> Result<Product, Stop>
-    ensures gives { Gives effect_of result (pack_segments kind (Held (value_at memory.now a.now)) (Held (value_at memory.now f.now)) (Held (value_at memory.now s.now))) }
-    ensures counted { Counts true result meter.old meter.new }
+) -> Result<Judged<'a>, Fault>
+    ensures gives { viewed made result ≡ pack_segments kind (Held (value_at memory.now a.now)) (Held (value_at memory.now f.now)) (Held (value_at memory.now s.now)) }
+    ensures word { IfOk result (λ judged. word_of judged ≡ words.Three (threes.PckSeg kind)) }
+    ensures ready { IfOk result IsReady }
 {
     let xs = items(memory, kind, a)?;
     let flags = bools(memory, f)?;
     let segments = segs(memory, s)?;
     same_length(xs.len(), flags.len())?;
     has_all(segments, xs.len())?;
-    Ok(Product::Store(packed(rt, alloc, meter, xs, flags)?))
+    Ok(Judged::PackSegments(xs, flags, segments))
 }
 
 #[tactic(auto, unfolding(crate::specs::Work::pack_lengths))]
-pub(crate) fn pack_lengths(
-    rt: &(impl Threads + Sync),
-    alloc: Global,
-    meter: &mut Meter,
-    memory: &Memory,
-    f: &Name,
-    s: &Name,
-) -> Result<Product, Stop>
-    ensures gives { Gives effect_of result (pack_lengths (Held (value_at memory.now f.now)) (Held (value_at memory.now s.now))) }
-    ensures counted { Counts true result meter.old meter.new }
+pub(crate) fn pack_lengths<'a>(memory: &'a Memory, f: &Name, s: &Name) -> Result<Judged<'a>, Fault>
+    ensures gives { viewed made result ≡ pack_lengths (Held (value_at memory.now f.now)) (Held (value_at memory.now s.now)) }
+    ensures word { IfOk result (λ judged. word_of judged ≡ words.Two twos.Pkl) }
+    ensures ready { IfOk result IsReady }
 {
     let flags = bools(memory, f)?;
     let segments = segs(memory, s)?;
     has_all(segments, flags.len())?;
-    let made = packed_lengths(rt, alloc, meter, flags, segments)?;
-    Ok(Product::Store(Value::Ints(made)))
+    Ok(Judged::PackLengths(flags, segments))
 }

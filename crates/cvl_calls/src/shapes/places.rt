@@ -2,42 +2,37 @@
 
 ghost use Rattle.std.specs.Prelude.{◌≡◌, ◌<◌, pos, IfOk};
 ghost use Rattle.vector_memory.specs.States.{value_at};
-ghost use Rattle.cvl_calls.specs.Outcomes.{Gives, Held, NumberGiven, check, effect_of, viewed};
+ghost use Rattle.cvl_text.specs.declared.word.Word.TheVariants as words;
 ghost use Rattle.cvl_calls.specs.Conditions.{is_place};
+ghost use Rattle.cvl_calls.specs.Judging.{IsReady, made, word_of};
+ghost use Rattle.cvl_calls.specs.Outcomes.{Held, NumberGiven, check, viewed};
 ghost use Rattle.cvl_calls.specs.Work.{extract, replace};
 
+use crate::judged::Judged;
 use crate::operands::ints;
-use crate::product::Product;
-use crate::stop::Stop;
-use cvl_text::{Fault, Reply};
-use std::alloc::Global;
-use vector_memory::{Memory, Name, Value};
+use cvl_text::Fault;
+use vector_memory::{Memory, Name};
 
 #[tactic(auto, unfolding(crate::specs::Work::extract))]
-pub(crate) fn extract(memory: &Memory, a: &Name, p: i64) -> Result<Product, Fault>
-    ensures { viewed effect_of result ≡ extract (Held (value_at memory.now a.now)) (NumberGiven p) }
+pub(crate) fn extract<'a>(memory: &'a Memory, a: &Name, p: i64) -> Result<Judged<'a>, Fault>
+    ensures gives { viewed made result ≡ extract (Held (value_at memory.now a.now)) (NumberGiven p) }
+    ensures word { IfOk result (λ judged. word_of judged ≡ words.Ext) }
+    ensures ready { IfOk result IsReady }
 {
     let xs = ints(memory, a)?;
     let place = place_in(p, xs.len())?;
-    Ok(Product::Reply(Reply::Int(xs[place])))
+    Ok(Judged::Ext(xs[place]))
 }
 
 #[tactic(auto, unfolding(crate::specs::Work::replace))]
-pub(crate) fn replace(
-    alloc: Global,
-    memory: &Memory,
-    a: &Name,
-    p: i64,
-    x: i64,
-) -> Result<Product, Stop>
-    ensures { Gives effect_of result
-        (replace (Held (value_at memory.now a.now)) (NumberGiven p) (NumberGiven x)) }
+pub(crate) fn replace<'a>(memory: &'a Memory, a: &Name, p: i64, x: i64) -> Result<Judged<'a>, Fault>
+    ensures gives { viewed made result ≡ replace (Held (value_at memory.now a.now)) (NumberGiven p) (NumberGiven x) }
+    ensures word { IfOk result (λ judged. word_of judged ≡ words.Rep) }
+    ensures ready { IfOk result IsReady }
 {
     let xs = ints(memory, a)?;
     let place = place_in(p, xs.len())?;
-    let mut made = Vec::from_slice(alloc, xs)?;
-    made[place] = x;
-    Ok(Product::Store(Value::Ints(made)))
+    Ok(Judged::Rep(xs, place, x))
 }
 
 /// The place, of a list of so many items.

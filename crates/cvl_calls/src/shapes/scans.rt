@@ -1,168 +1,124 @@
 //! Scans and reductions, of all items or of each segment.
 
-ghost use Rattle.std.specs.Prelude.{true};
+ghost use Rattle.std.specs.Prelude.{◌≡◌, IfOk};
+ghost use Rattle.scan_kernels.specs.BooleanScans.{combine_b, unit_b};
+ghost use Rattle.scan_kernels.specs.IntegerScans.{combine_z, unit_z};
 ghost use Rattle.vector_memory.specs.States.{value_at};
-ghost use Rattle.cvl_calls.specs.Outcomes.{Counts, Gives, Held, effect_of};
-ghost use Rattle.cvl_calls.specs.Work.{reduce_bool_segments, reduce_bools, reduce_int_segments, reduce_ints, scan_bool_segments, scan_bools, scan_int_segments, scan_ints};
+ghost use Rattle.cvl_text.specs.declared.word.AskWord.TheVariants as asks;
+ghost use Rattle.cvl_text.specs.declared.word.OneWord.TheVariants as ones;
+ghost use Rattle.cvl_text.specs.declared.word.TwoWord.TheVariants as twos;
+ghost use Rattle.cvl_text.specs.declared.word.Word.TheVariants as words;
+ghost use Rattle.cvl_calls.specs.Judging.{IsReady, made, word_of};
+ghost use Rattle.cvl_calls.specs.Operands.{integers, truths};
+ghost use Rattle.cvl_calls.specs.Outcomes.{Held, viewed};
+ghost use Rattle.cvl_calls.specs.Work.{reduce, reduce_segments, scan, scan_segments};
 
-use crate::conditions::{has_all, one_segment};
+use crate::conditions::has_all;
+use crate::judged::Judged;
 use crate::operands::{bools, ints, segs};
-use crate::product::Product;
-use crate::stop::Stop;
-use cvl_text::{Reply, ScanB, ScanZ};
-use scan_kernels::{Meter, reduce_b, reduce_z, scan_b, scan_z};
-use std::alloc::Global;
-use std::thread::Threads;
-use vector_memory::{Memory, Name, Value};
+use cvl_text::{Fault, ScanB, ScanZ};
+use vector_memory::{Memory, Name};
 
-#[tactic(auto, unfolding(crate::specs::Work::scan_ints))]
-pub(crate) fn scan_ints(
-    rt: &(impl Threads + Sync),
-    alloc: Global,
-    meter: &mut Meter,
-    memory: &Memory,
-    op: ScanZ,
-    a: &Name,
-) -> Result<Product, Stop>
-    ensures gives { Gives effect_of result (scan_ints op (Held (value_at memory.now a.now))) }
-    ensures counted { Counts true result meter.old meter.new }
+#[tactic(auto, unfolding(crate::specs::Work::scan))]
+pub(crate) fn scan_ints<'a>(memory: &'a Memory, op: ScanZ, a: &Name) -> Result<Judged<'a>, Fault>
+    ensures gives { viewed made result ≡ scan integers (combine_z op) (unit_z op) (Held (value_at memory.now a.now)) }
+    ensures word { IfOk result (λ judged. word_of judged ≡ words.One (ones.ScanZ op)) }
+    ensures ready { IfOk result IsReady }
 {
-    let xs = ints(memory, a)?;
-    let whole = one_segment(alloc, xs.len())?;
-    let made = scan_z(rt, alloc, meter, op, xs, &whole)?;
-    Ok(Product::Store(Value::Ints(made)))
+    Ok(Judged::ScanInts(op, ints(memory, a)?, None))
 }
 
-#[tactic(auto, unfolding(crate::specs::Work::scan_int_segments))]
-pub(crate) fn scan_int_segments(
-    rt: &(impl Threads + Sync),
-    alloc: Global,
-    meter: &mut Meter,
-    memory: &Memory,
+#[tactic(auto, unfolding(crate::specs::Work::scan_segments))]
+pub(crate) fn scan_int_segments<'a>(
+    memory: &'a Memory,
     op: ScanZ,
     a: &Name,
     s: &Name,
-) -> Result<Product, Stop>
-    ensures gives { Gives effect_of result (scan_int_segments op (Held (value_at memory.now a.now)) (Held (value_at memory.now s.now))) }
-    ensures counted { Counts true result meter.old meter.new }
+) -> Result<Judged<'a>, Fault>
+    ensures gives { viewed made result ≡ scan_segments integers (combine_z op) (unit_z op) (Held (value_at memory.now a.now)) (Held (value_at memory.now s.now)) }
+    ensures word { IfOk result (λ judged. word_of judged ≡ words.Two (twos.ScanSegZ op)) }
+    ensures ready { IfOk result IsReady }
 {
     let xs = ints(memory, a)?;
     let segments = segs(memory, s)?;
     has_all(segments, xs.len())?;
-    let made = scan_z(rt, alloc, meter, op, xs, segments)?;
-    Ok(Product::Store(Value::Ints(made)))
+    Ok(Judged::ScanInts(op, xs, Some(segments)))
 }
 
-#[tactic(auto, unfolding(crate::specs::Work::reduce_ints))]
-pub(crate) fn reduce_ints(
-    rt: &(impl Threads + Sync),
-    alloc: Global,
-    meter: &mut Meter,
-    memory: &Memory,
-    op: ScanZ,
-    a: &Name,
-) -> Result<Product, Stop>
-    ensures gives { Gives effect_of result (reduce_ints op (Held (value_at memory.now a.now))) }
-    ensures counted { Counts true result meter.old meter.new }
+#[tactic(auto, unfolding(crate::specs::Work::reduce))]
+pub(crate) fn reduce_ints<'a>(memory: &'a Memory, op: ScanZ, a: &Name) -> Result<Judged<'a>, Fault>
+    ensures gives { viewed made result ≡ reduce integers (combine_z op) (unit_z op) (Held (value_at memory.now a.now)) }
+    ensures word { IfOk result (λ judged. word_of judged ≡ words.Ask (asks.RedZ op)) }
+    ensures ready { IfOk result IsReady }
 {
-    let xs = ints(memory, a)?;
-    let whole = one_segment(alloc, xs.len())?;
-    let made = reduce_z(rt, alloc, meter, op, xs, &whole)?;
-    Ok(Product::Reply(Reply::Int(made[0])))
+    Ok(Judged::ReduceInts(op, ints(memory, a)?))
 }
 
-#[tactic(auto, unfolding(crate::specs::Work::reduce_int_segments))]
-pub(crate) fn reduce_int_segments(
-    rt: &(impl Threads + Sync),
-    alloc: Global,
-    meter: &mut Meter,
-    memory: &Memory,
+#[tactic(auto, unfolding(crate::specs::Work::reduce_segments))]
+pub(crate) fn reduce_int_segments<'a>(
+    memory: &'a Memory,
     op: ScanZ,
     a: &Name,
     s: &Name,
-) -> Result<Product, Stop>
-    ensures gives { Gives effect_of result (reduce_int_segments op (Held (value_at memory.now a.now)) (Held (value_at memory.now s.now))) }
-    ensures counted { Counts true result meter.old meter.new }
+) -> Result<Judged<'a>, Fault>
+    ensures gives { viewed made result ≡ reduce_segments integers (combine_z op) (unit_z op) (Held (value_at memory.now a.now)) (Held (value_at memory.now s.now)) }
+    ensures word { IfOk result (λ judged. word_of judged ≡ words.Two (twos.RedSegZ op)) }
+    ensures ready { IfOk result IsReady }
 {
     let xs = ints(memory, a)?;
     let segments = segs(memory, s)?;
     has_all(segments, xs.len())?;
-    let made = reduce_z(rt, alloc, meter, op, xs, segments)?;
-    Ok(Product::Store(Value::Ints(made)))
+    Ok(Judged::ReduceIntSegments(op, xs, segments))
 }
 
-#[tactic(auto, unfolding(crate::specs::Work::scan_bools))]
-pub(crate) fn scan_bools(
-    rt: &(impl Threads + Sync),
-    alloc: Global,
-    meter: &mut Meter,
-    memory: &Memory,
-    op: ScanB,
-    a: &Name,
-) -> Result<Product, Stop>
-    ensures gives { Gives effect_of result (scan_bools op (Held (value_at memory.now a.now))) }
-    ensures counted { Counts true result meter.old meter.new }
+#[tactic(auto, unfolding(crate::specs::Work::scan))]
+pub(crate) fn scan_bools<'a>(memory: &'a Memory, op: ScanB, a: &Name) -> Result<Judged<'a>, Fault>
+    ensures gives { viewed made result ≡ scan truths (combine_b op) (unit_b op) (Held (value_at memory.now a.now)) }
+    ensures word { IfOk result (λ judged. word_of judged ≡ words.One (ones.ScanB op)) }
+    ensures ready { IfOk result IsReady }
 {
-    let xs = bools(memory, a)?;
-    let whole = one_segment(alloc, xs.len())?;
-    let made = scan_b(rt, alloc, meter, op, xs, &whole)?;
-    Ok(Product::Store(Value::Bools(made)))
+    Ok(Judged::ScanBools(op, bools(memory, a)?, None))
 }
 
-#[tactic(auto, unfolding(crate::specs::Work::scan_bool_segments))]
-pub(crate) fn scan_bool_segments(
-    rt: &(impl Threads + Sync),
-    alloc: Global,
-    meter: &mut Meter,
-    memory: &Memory,
+#[tactic(auto, unfolding(crate::specs::Work::scan_segments))]
+pub(crate) fn scan_bool_segments<'a>(
+    memory: &'a Memory,
     op: ScanB,
     a: &Name,
     s: &Name,
-) -> Result<Product, Stop>
-    ensures gives { Gives effect_of result (scan_bool_segments op (Held (value_at memory.now a.now)) (Held (value_at memory.now s.now))) }
-    ensures counted { Counts true result meter.old meter.new }
+) -> Result<Judged<'a>, Fault>
+    ensures gives { viewed made result ≡ scan_segments truths (combine_b op) (unit_b op) (Held (value_at memory.now a.now)) (Held (value_at memory.now s.now)) }
+    ensures word { IfOk result (λ judged. word_of judged ≡ words.Two (twos.ScanSegB op)) }
+    ensures ready { IfOk result IsReady }
 {
     let xs = bools(memory, a)?;
     let segments = segs(memory, s)?;
     has_all(segments, xs.len())?;
-    let made = scan_b(rt, alloc, meter, op, xs, segments)?;
-    Ok(Product::Store(Value::Bools(made)))
+    Ok(Judged::ScanBools(op, xs, Some(segments)))
 }
 
-#[tactic(auto, unfolding(crate::specs::Work::reduce_bools))]
-pub(crate) fn reduce_bools(
-    rt: &(impl Threads + Sync),
-    alloc: Global,
-    meter: &mut Meter,
-    memory: &Memory,
-    op: ScanB,
-    a: &Name,
-) -> Result<Product, Stop>
-    ensures gives { Gives effect_of result (reduce_bools op (Held (value_at memory.now a.now))) }
-    ensures counted { Counts true result meter.old meter.new }
+#[tactic(auto, unfolding(crate::specs::Work::reduce))]
+pub(crate) fn reduce_bools<'a>(memory: &'a Memory, op: ScanB, a: &Name) -> Result<Judged<'a>, Fault>
+    ensures gives { viewed made result ≡ reduce truths (combine_b op) (unit_b op) (Held (value_at memory.now a.now)) }
+    ensures word { IfOk result (λ judged. word_of judged ≡ words.Ask (asks.RedB op)) }
+    ensures ready { IfOk result IsReady }
 {
-    let xs = bools(memory, a)?;
-    let whole = one_segment(alloc, xs.len())?;
-    let made = reduce_b(rt, alloc, meter, op, xs, &whole)?;
-    Ok(Product::Reply(Reply::Bool(made[0])))
+    Ok(Judged::ReduceBools(op, bools(memory, a)?))
 }
 
-#[tactic(auto, unfolding(crate::specs::Work::reduce_bool_segments))]
-pub(crate) fn reduce_bool_segments(
-    rt: &(impl Threads + Sync),
-    alloc: Global,
-    meter: &mut Meter,
-    memory: &Memory,
+#[tactic(auto, unfolding(crate::specs::Work::reduce_segments))]
+pub(crate) fn reduce_bool_segments<'a>(
+    memory: &'a Memory,
     op: ScanB,
     a: &Name,
     s: &Name,
-) -> Result<Product, Stop>
-    ensures gives { Gives effect_of result (reduce_bool_segments op (Held (value_at memory.now a.now)) (Held (value_at memory.now s.now))) }
-    ensures counted { Counts true result meter.old meter.new }
+) -> Result<Judged<'a>, Fault>
+    ensures gives { viewed made result ≡ reduce_segments truths (combine_b op) (unit_b op) (Held (value_at memory.now a.now)) (Held (value_at memory.now s.now)) }
+    ensures word { IfOk result (λ judged. word_of judged ≡ words.Two (twos.RedSegB op)) }
+    ensures ready { IfOk result IsReady }
 {
     let xs = bools(memory, a)?;
     let segments = segs(memory, s)?;
     has_all(segments, xs.len())?;
-    let made = reduce_b(rt, alloc, meter, op, xs, segments)?;
-    Ok(Product::Store(Value::Bools(made)))
+    Ok(Judged::ReduceBoolSegments(op, xs, segments))
 }

@@ -1,26 +1,32 @@
 //! The two forms of set.
 
-ghost use Rattle.cvl_calls.specs.Outcomes.{Gives, NumbersGiven, TruthsGiven, effect_of};
-ghost use Rattle.cvl_calls.specs.Work.{set_bools, set_ints};
+ghost use Rattle.std.specs.Prelude.{◌≡◌, IfOk};
+ghost use Rattle.cvl_text.specs.declared.word.Word.TheVariants as words;
+ghost use Rattle.cvl_calls.specs.Judging.{IsReady, made, word_of};
+ghost use Rattle.cvl_calls.specs.Operands.{integers, truths};
+ghost use Rattle.cvl_calls.specs.Outcomes.{NumbersGiven, TruthsGiven, viewed};
+ghost use Rattle.cvl_calls.specs.Work.{set};
 
+use crate::judged::Judged;
 use crate::operands::check_length;
-use crate::product::Product;
-use crate::stop::Stop;
-use std::alloc::Global;
-use vector_memory::Value;
+use cvl_text::Fault;
 
-#[tactic(auto, unfolding(crate::specs::Work::set_ints))]
-pub(crate) fn set_ints(alloc: Global, items: &Vec<i64>) -> Result<Product, Stop>
-    ensures { Gives effect_of result (set_ints (NumbersGiven items.now.items)) }
+#[tactic(auto, unfolding(crate::specs::Work::set))]
+pub(crate) fn set_ints<'a>(limit: usize, items: &'a [i64]) -> Result<Judged<'a>, Fault>
+    ensures gives { viewed made result ≡ set limit integers (NumbersGiven items.now) }
+    ensures word { IfOk result (λ judged. word_of judged ≡ words.SetInts) }
+    ensures ready { IfOk result IsReady }
 {
-    check_length(items.len())?;
-    Ok(Product::Store(Value::Ints(Vec::from_slice(alloc, items)?)))
+    check_length(limit, items.len())?;
+    Ok(Judged::SetInts(items))
 }
 
-#[tactic(auto, unfolding(crate::specs::Work::set_bools))]
-pub(crate) fn set_bools(alloc: Global, items: &Vec<bool>) -> Result<Product, Stop>
-    ensures { Gives effect_of result (set_bools (TruthsGiven items.now.items)) }
+#[tactic(auto, unfolding(crate::specs::Work::set))]
+pub(crate) fn set_bools<'a>(limit: usize, items: &'a [bool]) -> Result<Judged<'a>, Fault>
+    ensures gives { viewed made result ≡ set limit truths (TruthsGiven items.now) }
+    ensures word { IfOk result (λ judged. word_of judged ≡ words.SetBools) }
+    ensures ready { IfOk result IsReady }
 {
-    check_length(items.len())?;
-    Ok(Product::Store(Value::Bools(Vec::from_slice(alloc, items)?)))
+    check_length(limit, items.len())?;
+    Ok(Judged::SetBools(items))
 }

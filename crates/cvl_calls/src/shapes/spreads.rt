@@ -1,110 +1,80 @@
 //! One value many times over, and numbers that rise by a stride.
 
-ghost use Rattle.std.specs.Prelude.{true};
+ghost use Rattle.std.specs.Prelude.{◌≡◌, IfOk};
 ghost use Rattle.vector_memory.specs.States.{value_at};
-ghost use Rattle.cvl_calls.specs.Outcomes.{Counts, Gives, Held, NumberGiven, TruthGiven, effect_of};
-ghost use Rattle.cvl_calls.specs.Work.{distribute, index, index_segments, repeat_bool, repeat_int};
+ghost use Rattle.cvl_text.specs.declared.word.ThreeWord.TheVariants as threes;
+ghost use Rattle.cvl_text.specs.declared.word.TwoWord.TheVariants as twos;
+ghost use Rattle.cvl_text.specs.declared.word.Word.TheVariants as words;
+ghost use Rattle.cvl_calls.specs.Judging.{IsReady, made, word_of};
+ghost use Rattle.cvl_calls.specs.Operands.{integers, truths};
+ghost use Rattle.cvl_calls.specs.Outcomes.{Held, NumberGiven, TruthGiven, viewed};
+ghost use Rattle.cvl_calls.specs.Work.{distribute, index, index_segments, repeat};
 
-use crate::conditions::{has_each, one_segment, same_length};
-use crate::items::distributed;
+use crate::conditions::{has_each, same_length};
+use crate::judged::Judged;
 use crate::operands::{count, ints, items, segs};
-use crate::product::Product;
-use crate::stop::Stop;
-use cvl_text::Kind;
-use scan_kernels::{Meter, distribute_b, distribute_z};
-use std::alloc::Global;
-use std::thread::Threads;
-use vector_memory::{Memory, Name, Value};
+use cvl_text::{Fault, Kind};
+use vector_memory::{Memory, Name};
 
-#[tactic(auto, unfolding(crate::specs::Work::repeat_int))]
-pub(crate) fn repeat_int(
-    rt: &(impl Threads + Sync),
-    alloc: Global,
-    meter: &mut Meter,
-    x: i64,
-    n: i64,
-) -> Result<Product, Stop>
-    ensures gives { Gives effect_of result (repeat_int (NumberGiven x) (NumberGiven n)) }
-    ensures counted { Counts true result meter.old meter.new }
+#[tactic(auto, unfolding(crate::specs::Work::repeat))]
+pub(crate) fn repeat_int(limit: usize, x: i64, n: i64) -> Result<Judged<'static>, Fault>
+    ensures gives { viewed made result ≡ repeat limit integers (NumberGiven x) (NumberGiven n) }
+    ensures word { IfOk result (λ judged. word_of judged ≡ words.DisZ) }
+    ensures ready { IfOk result IsReady }
 {
-    let many = count(n)?;
-    let whole = one_segment(alloc, many)?;
-    let made = distribute_z(rt, alloc, meter, &[x], &whole)?;
-    Ok(Product::Store(Value::Ints(made)))
+    Ok(Judged::RepeatInt(x, count(limit, n)?))
 }
 
-#[tactic(auto, unfolding(crate::specs::Work::repeat_bool))]
-pub(crate) fn repeat_bool(
-    rt: &(impl Threads + Sync),
-    alloc: Global,
-    meter: &mut Meter,
-    x: bool,
-    n: i64,
-) -> Result<Product, Stop>
-    ensures gives { Gives effect_of result (repeat_bool (TruthGiven x) (NumberGiven n)) }
-    ensures counted { Counts true result meter.old meter.new }
+#[tactic(auto, unfolding(crate::specs::Work::repeat))]
+pub(crate) fn repeat_bool(limit: usize, x: bool, n: i64) -> Result<Judged<'static>, Fault>
+    ensures gives { viewed made result ≡ repeat limit truths (TruthGiven x) (NumberGiven n) }
+    ensures word { IfOk result (λ judged. word_of judged ≡ words.DisB) }
+    ensures ready { IfOk result IsReady }
 {
-    let many = count(n)?;
-    let whole = one_segment(alloc, many)?;
-    let made = distribute_b(rt, alloc, meter, &[x], &whole)?;
-    Ok(Product::Store(Value::Bools(made)))
+    Ok(Judged::RepeatBool(x, count(limit, n)?))
 }
 
 #[tactic(auto, unfolding(crate::specs::Work::distribute))]
-pub(crate) fn distribute(
-    rt: &(impl Threads + Sync),
-    alloc: Global,
-    meter: &mut Meter,
-    memory: &Memory,
+pub(crate) fn distribute<'a>(
+    memory: &'a Memory,
     kind: Kind,
     a: &Name,
     s: &Name,
-) -> Result<Product, Stop>
-    ensures gives { Gives effect_of result (distribute kind (Held (value_at memory.now a.now)) (Held (value_at memory.now s.now))) }
-    ensures counted { Counts true result meter.old meter.new }
+) -> Result<Judged<'a>, Fault>
+    ensures gives { viewed made result ≡ distribute kind (Held (value_at memory.now a.now)) (Held (value_at memory.now s.now)) }
+    ensures word { IfOk result (λ judged. word_of judged ≡ words.Two (twos.DisSeg kind)) }
+    ensures ready { IfOk result IsReady }
 {
     let xs = items(memory, kind, a)?;
     let segments = segs(memory, s)?;
     has_each(segments, xs.len())?;
-    Ok(Product::Store(distributed(rt, alloc, meter, xs, segments)?))
+    Ok(Judged::Distribute(xs, segments))
 }
 
 #[tactic(auto, unfolding(crate::specs::Work::index))]
-pub(crate) fn index(
-    rt: &(impl Threads + Sync),
-    alloc: Global,
-    meter: &mut Meter,
-    u: i64,
-    v: i64,
-    n: i64,
-) -> Result<Product, Stop>
-    ensures gives { Gives effect_of result (index (NumberGiven u) (NumberGiven v) (NumberGiven n)) }
-    ensures counted { Counts true result meter.old meter.new }
+pub(crate) fn index(limit: usize, u: i64, v: i64, n: i64) -> Result<Judged<'static>, Fault>
+    ensures gives { viewed made result ≡ index limit (NumberGiven u) (NumberGiven v) (NumberGiven n) }
+    ensures word { IfOk result (λ judged. word_of judged ≡ words.Ind) }
+    ensures ready { IfOk result IsReady }
 {
-    let many = count(n)?;
-    let whole = one_segment(alloc, many)?;
-    let made = scan_kernels::index(rt, alloc, meter, &[u], &[v], &whole)?;
-    Ok(Product::Store(Value::Ints(made)))
+    Ok(Judged::Index(u, v, count(limit, n)?))
 }
 
 #[tactic(auto, unfolding(crate::specs::Work::index_segments))]
-pub(crate) fn index_segments(
-    rt: &(impl Threads + Sync),
-    alloc: Global,
-    meter: &mut Meter,
-    memory: &Memory,
+pub(crate) fn index_segments<'a>(
+    memory: &'a Memory,
     a: &Name,
     b: &Name,
     s: &Name,
-) -> Result<Product, Stop>
-    ensures gives { Gives effect_of result (index_segments (Held (value_at memory.now a.now)) (Held (value_at memory.now b.now)) (Held (value_at memory.now s.now))) }
-    ensures counted { Counts true result meter.old meter.new }
+) -> Result<Judged<'a>, Fault>
+    ensures gives { viewed made result ≡ index_segments (Held (value_at memory.now a.now)) (Held (value_at memory.now b.now)) (Held (value_at memory.now s.now)) }
+    ensures word { IfOk result (λ judged. word_of judged ≡ words.Three threes.IndSeg) }
+    ensures ready { IfOk result IsReady }
 {
     let starts = ints(memory, a)?;
     let strides = ints(memory, b)?;
     let segments = segs(memory, s)?;
     same_length(starts.len(), strides.len())?;
     has_each(segments, starts.len())?;
-    let made = scan_kernels::index(rt, alloc, meter, starts, strides, segments)?;
-    Ok(Product::Store(Value::Ints(made)))
+    Ok(Judged::IndexSegments(starts, strides, segments))
 }

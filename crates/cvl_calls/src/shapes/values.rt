@@ -2,77 +2,89 @@
 
 ghost use Rattle.std.specs.Prelude.{◌≡◌, ◌≤◌, length, IfOk};
 ghost use Rattle.vector_memory.specs.Contents.{content_of};
-ghost use Rattle.vector_memory.specs.States.{item_limit, value_at};
-ghost use Rattle.cvl_calls.specs.Outcomes.{Gives, Held, NumberGiven, effect_of, viewed};
+ghost use Rattle.vector_memory.specs.States.{value_at};
+ghost use Rattle.cvl_text.specs.declared.word.AskWord.TheVariants as asks;
+ghost use Rattle.cvl_text.specs.declared.word.OneWord.TheVariants as ones;
+ghost use Rattle.cvl_text.specs.declared.word.Word.TheVariants as words;
+ghost use Rattle.cvl_calls.specs.Judging.{IsReady, made, word_of};
+ghost use Rattle.cvl_calls.specs.Outcomes.{Held, NumberGiven, viewed};
 ghost use Rattle.cvl_calls.specs.Work.{alo, free, get, len, len_segs, make_segs, mov};
 
+use crate::judged::Judged;
 use crate::operands::{any_value, count, ints, segs};
-use crate::product::Product;
-use crate::stop::Stop;
-use cvl_text::{Fault, Reply};
+use cvl_text::Fault;
 use segment_desc::{SegFault, Segd};
-use std::alloc::Global;
-use vector_memory::{ITEM_LIMIT, Memory, Name, Value};
+use vector_memory::laws::memories_are_lawful;
+use vector_memory::{Memory, Name};
 
 #[tactic(auto, unfolding(crate::specs::Work::get))]
-pub(crate) fn get(memory: &Memory, a: &Name) -> Result<Product, Stop>
-    ensures { Gives effect_of result (get (Held (value_at memory.now a.now))) }
+pub(crate) fn get<'a>(memory: &'a Memory, a: &Name) -> Result<Judged<'a>, Fault>
+    ensures gives { viewed made result ≡ get (Held (value_at memory.now a.now)) }
+    ensures word { IfOk result (λ judged. word_of judged ≡ words.Ask asks.Get) }
+    ensures ready { IfOk result IsReady }
 {
-    let value = any_value(memory, a)?;
-    Ok(Product::Reply(Reply::Vector(value.try_copy()?)))
+    Ok(Judged::Get(any_value(memory, a)?))
 }
 
 #[tactic(auto, unfolding(crate::specs::Work::mov))]
-pub(crate) fn mov(memory: &Memory, a: &Name) -> Result<Product, Stop>
-    ensures { Gives effect_of result (mov (Held (value_at memory.now a.now))) }
+pub(crate) fn mov<'a>(memory: &'a Memory, a: &Name) -> Result<Judged<'a>, Fault>
+    ensures gives { viewed made result ≡ mov (Held (value_at memory.now a.now)) }
+    ensures word { IfOk result (λ judged. word_of judged ≡ words.One ones.Mov) }
+    ensures ready { IfOk result IsReady }
 {
-    let value = any_value(memory, a)?;
-    Ok(Product::Store(value.try_copy()?))
+    Ok(Judged::Mov(any_value(memory, a)?))
 }
 
 #[tactic(auto, unfolding(crate::specs::Work::free))]
-pub(crate) fn free(memory: &Memory, a: &Name) -> Result<Product, Fault>
-    ensures { viewed effect_of result ≡ free (Held (value_at memory.now a.now)) }
+pub(crate) fn free<'a>(memory: &'a Memory, a: &Name) -> Result<Judged<'a>, Fault>
+    ensures gives { viewed made result ≡ free (Held (value_at memory.now a.now)) }
+    ensures word { IfOk result (λ judged. word_of judged ≡ words.Ask asks.Free) }
+    ensures ready { IfOk result IsReady }
 {
     any_value(memory, a)?;
-    Ok(Product::Free)
+    Ok(Judged::Free)
 }
 
 #[tactic(auto, unfolding(crate::specs::Work::alo))]
-pub(crate) fn alo(alloc: Global, n: i64) -> Result<Product, Stop>
-    ensures { Gives effect_of result (alo (NumberGiven n)) }
+pub(crate) fn alo(limit: usize, n: i64) -> Result<Judged<'static>, Fault>
+    ensures gives { viewed made result ≡ alo limit (NumberGiven n) }
+    ensures word { IfOk result (λ judged. word_of judged ≡ words.Alo) }
+    ensures ready { IfOk result IsReady }
 {
-    let count = count(n)?;
-    Ok(Product::Store(Value::Ints(vec![in alloc; 0; count]?)))
+    Ok(Judged::Alo(count(limit, n)?))
 }
 
 #[tactic(auto, unfolding(crate::specs::Work::len))]
-pub(crate) fn len(memory: &Memory, a: &Name) -> Result<Product, Fault>
-    ensures { viewed effect_of result ≡ len (Held (value_at memory.now a.now)) }
+pub(crate) fn len<'a>(memory: &'a Memory, a: &Name) -> Result<Judged<'a>, Fault>
+    ensures gives { viewed made result ≡ len (Held (value_at memory.now a.now)) }
+    ensures word { IfOk result (λ judged. word_of judged ≡ words.Ask asks.Len) }
+    ensures ready { IfOk result IsReady }
 {
+    memories_are_lawful(memory);
     let value = any_value(memory, a)?;
-    Ok(Product::Reply(Reply::Int(value.size() as i64)))
+    Ok(Judged::Len(value.size() as i64))
 }
 
 #[tactic(auto, unfolding(crate::specs::Work::make_segs))]
-pub(crate) fn make_segs(alloc: Global, memory: &Memory, a: &Name) -> Result<Product, Stop>
-    ensures { Gives effect_of result (make_segs (Held (value_at memory.now a.now))) }
+pub(crate) fn make_segs<'a>(memory: &'a Memory, a: &Name) -> Result<Judged<'a>, Fault>
+    ensures gives { viewed made result ≡ make_segs memory.now.limit (Held (value_at memory.now a.now)) }
+    ensures word { IfOk result (λ judged. word_of judged ≡ words.One ones.MakeSegs) }
+    ensures ready { IfOk result IsReady }
 {
+    memories_are_lawful(memory);
     let lengths = ints(memory, a)?;
-    match Segd::from_lengths_within(alloc, lengths, ITEM_LIMIT) {
-        Ok(segments) => Ok(Product::Store(Value::Segs(segments))),
-        Err(SegFault::Negative) => Err(Stop::Fault(Fault::BadSegments)),
-        Err(SegFault::TooLong) => Err(Stop::Fault(Fault::TooLong)),
-        Err(SegFault::OutOfMemory) => Err(Stop::OutOfMemory),
+    match Segd::judge_lengths(lengths, memory.limit()) {
+        Ok(total) => Ok(Judged::MakeSegs(lengths, total)),
+        Err(SegFault::Negative) => Err(Fault::BadSegments),
+        Err(_) => Err(Fault::TooLong),
     }
 }
 
 #[tactic(auto, unfolding(crate::specs::Work::len_segs))]
-pub(crate) fn len_segs(alloc: Global, memory: &Memory, s: &Name) -> Result<Product, Stop>
-    ensures { Gives effect_of result (len_segs (Held (value_at memory.now s.now))) }
+pub(crate) fn len_segs<'a>(memory: &'a Memory, s: &Name) -> Result<Judged<'a>, Fault>
+    ensures gives { viewed made result ≡ len_segs (Held (value_at memory.now s.now)) }
+    ensures word { IfOk result (λ judged. word_of judged ≡ words.One ones.LenSegs) }
+    ensures ready { IfOk result IsReady }
 {
-    let segments = segs(memory, s)?;
-    let mut lengths = Vec::new(alloc);
-    segments.lengths_into(&mut lengths)?;
-    Ok(Product::Store(Value::Ints(lengths)))
+    Ok(Judged::LenSegs(segs(memory, s)?))
 }

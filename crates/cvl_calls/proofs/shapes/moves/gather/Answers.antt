@@ -1,12 +1,30 @@
-use Rattle.std.proofs.Common.{◌∙◌, ap, sym, List, ◌∷◌, [], ℕ}
-use Rattle.vector_memory.specs.Contents.{content_of}
-use Rattle.cvl_calls.specs.Outcomes.{Held}
+use Rattle.std.proofs.Common.{rules, ◌≡◌, ◌∙◌, ap, ℕ, List, ℤ, Result, Ok, refl}
+use Rattle.std.specs.List.{list_all}
+use Rattle.permute_kernels.specs.Gathered.{gathered}
+use Rattle.vector_memory.specs.Contents.{Content, size_of}
 use Rattle.vector_memory.specs.States.{value_at}
-use Rattle.cvl_calls.specs.Views.{vector_of}
-use Rattle.cvl_calls.proofs.Joined.{gather-gives}
+use Rattle.cvl_text.specs.declared.fault.Fault.{Fault}
+use Rattle.cvl_text.specs.declared.fault.Fault.TheVariants.{BadIndex}
+use Rattle.cvl_text.specs.declared.word.Kind.{Kind}
+use Rattle.cvl_calls.specs.Conditions.{is_place}
+use Rattle.cvl_calls.specs.Operands.{ints, items, over_items}
+use Rattle.cvl_calls.specs.Outcomes.{Effect, Held, Operand, Stores, check, ◌>>=◌}
+use Rattle.cvl_calls.specs.Work.{gather}
 use Rattle.cvl_calls.proofs.shapes.moves.gather.Goals as goal
 
+-- a gather whose index was tested against as many items as there are
+gather-tested : (kind : Kind) (a i : Operand) (v : Content) (places : List ℤ) (n : ℕ) (tested : Result (Unit {0}) Fault) → Ok v ≡ items kind a → Ok places ≡ ints i → n ≡ size_of v → tested ≡ check (list_all (is_place n) places) BadIndex
+    → (tested >>= λ each. Ok (Stores (over_items (λ X xs. gathered places xs) v))) ≡ gather kind a i
+unfolding gather
+gather-tested kind a i v places n tested held index same was =
+    let next : Unit {0} → Result Effect Fault = λ each. Ok (Stores (over_items (λ X xs. gathered places xs) v)) in
+    ap (λ (r : Result (Unit {0}) Fault). r >>= next) (was ∙ ap (λ (m : ℕ). check (list_all (is_place m) places) BadIndex) same) ∙ rw (← held, ← index) refl
+
+pub returns-in_err-within-clause-gives : goal.returns-in_err-within-clause-gives
+returns-in_err-within-clause-gives c =
+    let told = gather-tested c.args.kind (Held (value_at c.args.memory.now c.args.a.now)) (Held (value_at c.args.memory.now c.args.i.now)) _ _ _ _ c.in_ok-xs.ensures.items c.in_ok-places.ensures.items c.len.ensures c.in_err-within.ensures.fault in
+    search rules
+
 pub returns-clause-gives : goal.returns-clause-gives
-returns-clause-gives g c =
-    gather-gives c.args.kind (Held (value_at c.args.memory.now c.args.a.now)) (Held (value_at c.args.memory.now c.args.i.now)) (vector_of c.in_ok-xs.xs) c.in_ok-places.places.now c.in_ok-source.source c.in_ok-by.by c.in_ok-lies_within.field-0 (content_of c.in_ok-gathered.field-0)
-    c.in_ok-xs.ensures c.in_ok-places.ensures.items (c.in_ok-source.ensures ∙ ap (λ (n : ℕ). n ∷ []) c.len.ensures) c.in_ok-by.ensures c.in_ok-lies_within.ensures.fault c.in_ok-gathered.ensures.gather
+returns-clause-gives c =
+    gather-tested c.args.kind (Held (value_at c.args.memory.now c.args.a.now)) (Held (value_at c.args.memory.now c.args.i.now)) _ _ _ _ c.in_ok-xs.ensures.items c.in_ok-places.ensures.items c.len.ensures c.in_ok-within.ensures.fault

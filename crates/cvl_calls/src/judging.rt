@@ -1,0 +1,155 @@
+//! The checks of a call, before anything is made.
+
+ghost use Rattle.std.specs.Prelude.{◌≡◌, false, IfOk, OnErr, true};
+ghost use Rattle.cvl_text.specs.Tasks.{task_of};
+ghost use Rattle.cvl_calls.specs.Judging.{IsReady, made, word_of};
+ghost use Rattle.cvl_calls.specs.Outcomes.{GivesBy, IsAnswered, IsFittingEffect, fault_in, operands_of};
+ghost use Rattle.cvl_calls.specs.Runs.{tests_index};
+ghost use Rattle.cvl_calls.specs.Work.{work};
+
+use crate::judged::Judged;
+use crate::shapes::elementwise::*;
+use crate::shapes::moves::*;
+use crate::shapes::packs::*;
+use crate::shapes::places::*;
+use crate::shapes::scans::*;
+use crate::shapes::setting::*;
+use crate::shapes::spreads::*;
+use crate::shapes::values::*;
+use crate::stop::Stop;
+use cvl_text::{Call, Fault, Kind};
+use segment_desc::OutOfMemory;
+use std::alloc::Global;
+use vector_memory::Memory;
+use vector_memory::laws::memories_are_lawful;
+
+/// Finds the operands of a call and makes the checks of its shape in their order: what is left to be done, or the first
+/// fault of 1 to 8. Memory is taken only by the test of a permutation, in `smp_*`.
+pub fn judge<'a>(alloc: Global, memory: &'a Memory, call: &'a Call) -> Result<Judged<'a>, Stop>
+    ensures gives { let task = task_of call.now in
+        GivesBy (tests_index task.word) made result (work memory.now.limit task.word (operands_of memory.now task.arguments)) }
+    ensures answered { tests_index (task_of call.now).word ≡ false → IsAnswered result }
+    ensures word { IfOk result (λ judged. word_of judged ≡ (task_of call.now).word) }
+    ensures ready { IfOk result IsReady }
+    ensures fits { IfOk result (λ judged. IsFittingEffect memory.now.limit (made judged)) }
+{
+    memories_are_lawful(memory);
+    by_shape(alloc, memory, call)
+}
+
+/// The first fault of a call, of 1 to 8, or none: what `judge` finds.
+pub fn check(alloc: Global, memory: &Memory, call: &Call) -> Result<Option<Fault>, OutOfMemory>
+    ensures fault { let task = task_of call.now in
+        IfOk result (λ fault. fault ≡ fault_in (work memory.now.limit task.word (operands_of memory.now task.arguments))) }
+    ensures lacks { OnErr result (tests_index (task_of call.now).word ≡ true) }
+{
+    match judge(alloc, memory, call) {
+        Ok(_) => Ok(None),
+        Err(Stop::Fault(fault)) => Ok(Some(fault)),
+        Err(Stop::OutOfMemory) => Err(OutOfMemory),
+    }
+}
+
+fn by_shape<'a>(alloc: Global, memory: &'a Memory, call: &'a Call) -> Result<Judged<'a>, Stop>
+    ensures gives { let task = task_of call.now in
+        GivesBy (tests_index task.word) made result (work memory.now.limit task.word (operands_of memory.now task.arguments)) }
+    ensures answered { tests_index (task_of call.now).word ≡ false → IsAnswered result }
+    ensures word { IfOk result (λ judged. word_of judged ≡ (task_of call.now).word) }
+    ensures ready { IfOk result IsReady }
+{
+    match call {
+        Call::SetInts { items, .. } => Ok(set_ints(memory.limit(), items)?),
+        Call::SetBools { items, .. } => Ok(set_bools(memory.limit(), items)?),
+        Call::Get { a } => Ok(get(memory, a)?),
+        Call::Mov { a, .. } => Ok(mov(memory, a)?),
+        Call::Free { a } => Ok(free(memory, a)?),
+        Call::Alo { n, .. } => Ok(alo(memory.limit(), *n)?),
+        Call::Len { a } => Ok(len(memory, a)?),
+        Call::MakeSegs { a, .. } => Ok(make_segs(memory, a)?),
+        Call::LenSegs { s, .. } => Ok(len_segs(memory, s)?),
+        Call::MapZ2 { op, a, b, .. } => Ok(map_ints(memory, *op, a, b)?),
+        Call::MapZ1 { op, a, .. } => Ok(alter_ints(memory, *op, a)?),
+        Call::CmpZ { op, a, b, .. } => Ok(compare(memory, *op, a, b)?),
+        Call::MapB2 { op, a, b, .. } => Ok(map_bools(memory, *op, a, b)?),
+        Call::MapB1 { op, a, .. } => Ok(alter_bools(memory, *op, a)?),
+        Call::Sel {
+            kind: Kind::Z,
+            f,
+            a,
+            b,
+            ..
+        } => Ok(select_ints(memory, f, a, b)?),
+        Call::Sel {
+            kind: Kind::B,
+            f,
+            a,
+            b,
+            ..
+        } => Ok(select_bools(memory, f, a, b)?),
+        Call::Boo { a, .. } => Ok(truths_of(memory, a)?),
+        Call::IntOf { a, .. } => Ok(numbers_of(memory, a)?),
+        Call::ScanOfZ { op, a, s: None, .. } => Ok(scan_ints(memory, *op, a)?),
+        Call::ScanOfZ {
+            op,
+            a,
+            s: Some(s),
+            ..
+        } => Ok(scan_int_segments(memory, *op, a, s)?),
+        Call::ScanOfB { op, a, s: None, .. } => Ok(scan_bools(memory, *op, a)?),
+        Call::ScanOfB {
+            op,
+            a,
+            s: Some(s),
+            ..
+        } => Ok(scan_bool_segments(memory, *op, a, s)?),
+        Call::RedZ { op, a } => Ok(reduce_ints(memory, *op, a)?),
+        Call::RedB { op, a } => Ok(reduce_bools(memory, *op, a)?),
+        Call::RedSegZ { op, a, s, .. } => Ok(reduce_int_segments(memory, *op, a, s)?),
+        Call::RedSegB { op, a, s, .. } => Ok(reduce_bool_segments(memory, *op, a, s)?),
+        Call::DisZ { x, n, .. } => Ok(repeat_int(memory.limit(), *x, *n)?),
+        Call::DisB { x, n, .. } => Ok(repeat_bool(memory.limit(), *x, *n)?),
+        Call::DisSeg { kind, a, s, .. } => Ok(distribute(memory, *kind, a, s)?),
+        Call::Ind { u, v, n, .. } => Ok(index(memory.limit(), *u, *v, *n)?),
+        Call::IndSeg { a, b, s, .. } => Ok(index_segments(memory, a, b, s)?),
+        Call::Smp {
+            kind,
+            a,
+            i,
+            s: None,
+            ..
+        } => permute(alloc, memory, *kind, a, i),
+        Call::Smp {
+            kind,
+            a,
+            i,
+            s: Some(s),
+            ..
+        } => permute_segments(alloc, memory, *kind, a, i, s),
+        Call::Bck { kind, a, i, .. } => Ok(gather(memory, *kind, a, i)?),
+        Call::BckSeg {
+            kind,
+            a,
+            s,
+            i,
+            t,
+            ..
+        } => Ok(gather_segments(memory, *kind, a, s, i, t)?),
+        Call::Pck {
+            kind,
+            a,
+            f,
+            s: None,
+            ..
+        } => Ok(pack(memory, *kind, a, f)?),
+        Call::Pck {
+            kind,
+            a,
+            f,
+            s: Some(s),
+            ..
+        } => Ok(pack_segments(memory, *kind, a, f, s)?),
+        Call::Pkl { f, s, .. } => Ok(pack_lengths(memory, f, s)?),
+        Call::Ext { a, p } => Ok(extract(memory, a, *p)?),
+        Call::Rep { a, p, x, .. } => Ok(replace(memory, a, *p, *x)?),
+    }
+}
