@@ -50,6 +50,7 @@ pub fn check(alloc: Global, memory: &Memory, call: &Call) -> Result<Option<Fault
     }
 }
 
+/// The same, by the shape of the call.
 fn by_shape<'a>(alloc: Global, memory: &'a Memory, call: &'a Call) -> Result<Judged<'a>, Stop>
     ensures gives { let task = task_of call.now in
         GivesBy (tests_index task.word) made result (work memory.now.limit task.word (operands_of memory.now task.arguments)) }

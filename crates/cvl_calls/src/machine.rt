@@ -18,9 +18,8 @@ use std::alloc::Global;
 use vector_memory::{Memory, Name, OutOfMemory, StoreFault, Value};
 
 /// The result of a call, or its first fault, from the values that it reads: `judge`, and then `run`. Nothing is written.
-/// The meter rises by one where a kernel ran: with a result, of each call but the forms of set, `get`, `mov_fov`, `fre_fov`,
-/// `alo_foz`, `len_fov`, `mke_fov`, `len_fos`, `ext_vuz` and `rep_vuz`. Of these, `fre_fov`, `len_fov` and `ext_vuz` take no
-/// memory.
+/// The meter rises by one where a kernel ran: with a result, of each call for whose word `runs_kernel` is true. `fre_fov`,
+/// `len_fov` and `ext_vuz` take no memory, and are always answered. A value that is made is one that the memory may hold.
 pub fn work(
     execution: &impl Execution,
     alloc: Global,
@@ -54,7 +53,7 @@ fn store(memory: &mut Memory, to: Name, value: Value) -> Result<Reply, OutOfMemo
 }
 
 /// Stores at the target what a call made of its operands, takes the target away, or hands the reply on. The value is one
-/// that `work` made, within the limits of a value. A refused store is a fault, and it and a want of memory leave the memory as it was.
+/// that `work` makes, within the limit of the memory. A refused store is a fault, and it and a want of memory leave the memory as it was.
 pub fn apply(memory: &mut Memory, to: Option<Name>, product: Product) -> Result<Reply, OutOfMemory>
     requires { IsFittingEffect memory.old.limit (effect_of product) }
     ensures ok { IfOk result (λ reply. applied memory.old to (effect_of product)

@@ -1,4 +1,5 @@
-//! What each shape of call makes of its operands.
+//! The checks of each shape of call. Each function is inlined: out of line it would have a place for its answer in the frame
+//! of `judge`, and all these places are cleared at each call.
 
 pub(crate) mod elementwise;
 pub(crate) mod moves;

@@ -23,6 +23,7 @@ use cvl_text::{B1, B2, Cmp, Fault, Z1, Z2};
 use vector_memory::{Memory, Name};
 
 #[tactic(auto, unfolding(crate::specs::Work::map_two))]
+#[inline(always)]
 pub(crate) fn map_ints<'a>(
     memory: &'a Memory,
     op: Z2,
@@ -41,6 +42,7 @@ pub(crate) fn map_ints<'a>(
 }
 
 #[tactic(auto, unfolding(crate::specs::Work::map_two))]
+#[inline(always)]
 pub(crate) fn compare<'a>(
     memory: &'a Memory,
     op: Cmp,
@@ -58,6 +60,7 @@ pub(crate) fn compare<'a>(
 }
 
 #[tactic(auto, unfolding(crate::specs::Work::map_two))]
+#[inline(always)]
 pub(crate) fn map_bools<'a>(
     memory: &'a Memory,
     op: B2,
@@ -75,6 +78,7 @@ pub(crate) fn map_bools<'a>(
 }
 
 #[tactic(auto, unfolding(crate::specs::Work::map_one))]
+#[inline(always)]
 pub(crate) fn alter_ints<'a>(memory: &'a Memory, op: Z1, a: &Name) -> Result<Judged<'a>, Fault>
     ensures gives { viewed made result ≡ map_one integers integers (alter_z op) (Held (value_at memory.now a.now)) }
     ensures word { IfOk result (λ judged. word_of judged ≡ words.One (ones.MapZ1 op)) }
@@ -84,6 +88,7 @@ pub(crate) fn alter_ints<'a>(memory: &'a Memory, op: Z1, a: &Name) -> Result<Jud
 }
 
 #[tactic(auto, unfolding(crate::specs::Work::map_one))]
+#[inline(always)]
 pub(crate) fn alter_bools<'a>(memory: &'a Memory, op: B1, a: &Name) -> Result<Judged<'a>, Fault>
     ensures gives { viewed made result ≡ map_one truths truths (alter_b op) (Held (value_at memory.now a.now)) }
     ensures word { IfOk result (λ judged. word_of judged ≡ words.One (ones.MapB1 op)) }
@@ -93,6 +98,7 @@ pub(crate) fn alter_bools<'a>(memory: &'a Memory, op: B1, a: &Name) -> Result<Ju
 }
 
 #[tactic(auto, unfolding(crate::specs::Work::map_one))]
+#[inline(always)]
 pub(crate) fn truths_of<'a>(memory: &'a Memory, a: &Name) -> Result<Judged<'a>, Fault>
     ensures gives { viewed made result ≡ map_one integers truths is_true (Held (value_at memory.now a.now)) }
     ensures word { IfOk result (λ judged. word_of judged ≡ words.One ones.Boo) }
@@ -102,6 +108,7 @@ pub(crate) fn truths_of<'a>(memory: &'a Memory, a: &Name) -> Result<Judged<'a>, 
 }
 
 #[tactic(auto, unfolding(crate::specs::Work::map_one))]
+#[inline(always)]
 pub(crate) fn numbers_of<'a>(memory: &'a Memory, a: &Name) -> Result<Judged<'a>, Fault>
     ensures gives { viewed made result ≡ map_one truths integers as_number (Held (value_at memory.now a.now)) }
     ensures word { IfOk result (λ judged. word_of judged ≡ words.One ones.IntOf) }
@@ -111,6 +118,7 @@ pub(crate) fn numbers_of<'a>(memory: &'a Memory, a: &Name) -> Result<Judged<'a>,
 }
 
 #[tactic(auto, unfolding(crate::specs::Work::select))]
+#[inline(always)]
 pub(crate) fn select_ints<'a>(
     memory: &'a Memory,
     f: &Name,
@@ -130,6 +138,7 @@ pub(crate) fn select_ints<'a>(
 }
 
 #[tactic(auto, unfolding(crate::specs::Work::select))]
+#[inline(always)]
 pub(crate) fn select_bools<'a>(
     memory: &'a Memory,
     f: &Name,

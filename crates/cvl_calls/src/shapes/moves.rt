@@ -20,6 +20,7 @@ use std::alloc::Global;
 use vector_memory::{Memory, Name};
 
 #[tactic(auto, unfolding(crate::specs::Work::permute))]
+#[inline(always)]
 pub(crate) fn permute<'a>(
     alloc: Global,
     memory: &'a Memory,
@@ -39,6 +40,7 @@ pub(crate) fn permute<'a>(
 }
 
 #[tactic(auto, unfolding(crate::specs::Work::permute_segments))]
+#[inline(always)]
 pub(crate) fn permute_segments<'a>(
     alloc: Global,
     memory: &'a Memory,
@@ -61,6 +63,7 @@ pub(crate) fn permute_segments<'a>(
 }
 
 #[tactic(auto, unfolding(crate::specs::Work::gather))]
+#[inline(always)]
 pub(crate) fn gather<'a>(
     memory: &'a Memory,
     kind: Kind,
@@ -78,6 +81,7 @@ pub(crate) fn gather<'a>(
 }
 
 #[tactic(auto, unfolding(crate::specs::Work::gather_segments))]
+#[inline(always)]
 pub(crate) fn gather_segments<'a>(
     memory: &'a Memory,
     kind: Kind,

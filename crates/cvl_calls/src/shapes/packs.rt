@@ -16,6 +16,7 @@ use cvl_text::{Fault, Kind};
 use vector_memory::{Memory, Name};
 
 #[tactic(auto, unfolding(crate::specs::Work::pack))]
+#[inline(always)]
 pub(crate) fn pack<'a>(
     memory: &'a Memory,
     kind: Kind,
@@ -33,6 +34,7 @@ pub(crate) fn pack<'a>(
 }
 
 #[tactic(auto, unfolding(crate::specs::Work::pack_segments))]
+#[inline(always)]
 pub(crate) fn pack_segments<'a>(
     memory: &'a Memory,
     kind: Kind,
@@ -53,6 +55,7 @@ pub(crate) fn pack_segments<'a>(
 }
 
 #[tactic(auto, unfolding(crate::specs::Work::pack_lengths))]
+#[inline(always)]
 pub(crate) fn pack_lengths<'a>(memory: &'a Memory, f: &Name, s: &Name) -> Result<Judged<'a>, Fault>
     ensures gives { viewed made result ≡ pack_lengths (Held (value_at memory.now f.now)) (Held (value_at memory.now s.now)) }
     ensures word { IfOk result (λ judged. word_of judged ≡ words.Two twos.Pkl) }

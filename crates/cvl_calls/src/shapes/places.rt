@@ -14,6 +14,7 @@ use cvl_text::Fault;
 use vector_memory::{Memory, Name};
 
 #[tactic(auto, unfolding(crate::specs::Work::extract))]
+#[inline(always)]
 pub(crate) fn extract<'a>(memory: &'a Memory, a: &Name, p: i64) -> Result<Judged<'a>, Fault>
     ensures gives { viewed made result ≡ extract (Held (value_at memory.now a.now)) (NumberGiven p) }
     ensures word { IfOk result (λ judged. word_of judged ≡ words.Ext) }
@@ -25,6 +26,7 @@ pub(crate) fn extract<'a>(memory: &'a Memory, a: &Name, p: i64) -> Result<Judged
 }
 
 #[tactic(auto, unfolding(crate::specs::Work::replace))]
+#[inline(always)]
 pub(crate) fn replace<'a>(memory: &'a Memory, a: &Name, p: i64, x: i64) -> Result<Judged<'a>, Fault>
     ensures gives { viewed made result ≡ replace (Held (value_at memory.now a.now)) (NumberGiven p) (NumberGiven x) }
     ensures word { IfOk result (λ judged. word_of judged ≡ words.Rep) }

@@ -20,6 +20,7 @@ use cvl_text::{Fault, ScanB, ScanZ};
 use vector_memory::{Memory, Name};
 
 #[tactic(auto, unfolding(crate::specs::Work::scan))]
+#[inline(always)]
 pub(crate) fn scan_ints<'a>(memory: &'a Memory, op: ScanZ, a: &Name) -> Result<Judged<'a>, Fault>
     ensures gives { viewed made result ≡ scan integers (combine_z op) (unit_z op) (Held (value_at memory.now a.now)) }
     ensures word { IfOk result (λ judged. word_of judged ≡ words.One (ones.ScanZ op)) }
@@ -29,6 +30,7 @@ pub(crate) fn scan_ints<'a>(memory: &'a Memory, op: ScanZ, a: &Name) -> Result<J
 }
 
 #[tactic(auto, unfolding(crate::specs::Work::scan_segments))]
+#[inline(always)]
 pub(crate) fn scan_int_segments<'a>(
     memory: &'a Memory,
     op: ScanZ,
@@ -46,6 +48,7 @@ pub(crate) fn scan_int_segments<'a>(
 }
 
 #[tactic(auto, unfolding(crate::specs::Work::reduce))]
+#[inline(always)]
 pub(crate) fn reduce_ints<'a>(memory: &'a Memory, op: ScanZ, a: &Name) -> Result<Judged<'a>, Fault>
     ensures gives { viewed made result ≡ reduce integers (combine_z op) (unit_z op) (Held (value_at memory.now a.now)) }
     ensures word { IfOk result (λ judged. word_of judged ≡ words.Ask (asks.RedZ op)) }
@@ -55,6 +58,7 @@ pub(crate) fn reduce_ints<'a>(memory: &'a Memory, op: ScanZ, a: &Name) -> Result
 }
 
 #[tactic(auto, unfolding(crate::specs::Work::reduce_segments))]
+#[inline(always)]
 pub(crate) fn reduce_int_segments<'a>(
     memory: &'a Memory,
     op: ScanZ,
@@ -72,6 +76,7 @@ pub(crate) fn reduce_int_segments<'a>(
 }
 
 #[tactic(auto, unfolding(crate::specs::Work::scan))]
+#[inline(always)]
 pub(crate) fn scan_bools<'a>(memory: &'a Memory, op: ScanB, a: &Name) -> Result<Judged<'a>, Fault>
     ensures gives { viewed made result ≡ scan truths (combine_b op) (unit_b op) (Held (value_at memory.now a.now)) }
     ensures word { IfOk result (λ judged. word_of judged ≡ words.One (ones.ScanB op)) }
@@ -81,6 +86,7 @@ pub(crate) fn scan_bools<'a>(memory: &'a Memory, op: ScanB, a: &Name) -> Result<
 }
 
 #[tactic(auto, unfolding(crate::specs::Work::scan_segments))]
+#[inline(always)]
 pub(crate) fn scan_bool_segments<'a>(
     memory: &'a Memory,
     op: ScanB,
@@ -98,6 +104,7 @@ pub(crate) fn scan_bool_segments<'a>(
 }
 
 #[tactic(auto, unfolding(crate::specs::Work::reduce))]
+#[inline(always)]
 pub(crate) fn reduce_bools<'a>(memory: &'a Memory, op: ScanB, a: &Name) -> Result<Judged<'a>, Fault>
     ensures gives { viewed made result ≡ reduce truths (combine_b op) (unit_b op) (Held (value_at memory.now a.now)) }
     ensures word { IfOk result (λ judged. word_of judged ≡ words.Ask (asks.RedB op)) }
@@ -107,6 +114,7 @@ pub(crate) fn reduce_bools<'a>(memory: &'a Memory, op: ScanB, a: &Name) -> Resul
 }
 
 #[tactic(auto, unfolding(crate::specs::Work::reduce_segments))]
+#[inline(always)]
 pub(crate) fn reduce_bool_segments<'a>(
     memory: &'a Memory,
     op: ScanB,

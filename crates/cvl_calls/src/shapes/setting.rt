@@ -12,6 +12,7 @@ use crate::operands::check_length;
 use cvl_text::Fault;
 
 #[tactic(auto, unfolding(crate::specs::Work::set))]
+#[inline(always)]
 pub(crate) fn set_ints<'a>(limit: usize, items: &'a [i64]) -> Result<Judged<'a>, Fault>
     ensures gives { viewed made result ≡ set limit integers (NumbersGiven items.now) }
     ensures word { IfOk result (λ judged. word_of judged ≡ words.SetInts) }
@@ -22,6 +23,7 @@ pub(crate) fn set_ints<'a>(limit: usize, items: &'a [i64]) -> Result<Judged<'a>,
 }
 
 #[tactic(auto, unfolding(crate::specs::Work::set))]
+#[inline(always)]
 pub(crate) fn set_bools<'a>(limit: usize, items: &'a [bool]) -> Result<Judged<'a>, Fault>
     ensures gives { viewed made result ≡ set limit truths (TruthsGiven items.now) }
     ensures word { IfOk result (λ judged. word_of judged ≡ words.SetBools) }

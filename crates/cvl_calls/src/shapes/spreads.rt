@@ -17,6 +17,7 @@ use cvl_text::{Fault, Kind};
 use vector_memory::{Memory, Name};
 
 #[tactic(auto, unfolding(crate::specs::Work::repeat))]
+#[inline(always)]
 pub(crate) fn repeat_int(limit: usize, x: i64, n: i64) -> Result<Judged<'static>, Fault>
     ensures gives { viewed made result ≡ repeat limit integers (NumberGiven x) (NumberGiven n) }
     ensures word { IfOk result (λ judged. word_of judged ≡ words.DisZ) }
@@ -26,6 +27,7 @@ pub(crate) fn repeat_int(limit: usize, x: i64, n: i64) -> Result<Judged<'static>
 }
 
 #[tactic(auto, unfolding(crate::specs::Work::repeat))]
+#[inline(always)]
 pub(crate) fn repeat_bool(limit: usize, x: bool, n: i64) -> Result<Judged<'static>, Fault>
     ensures gives { viewed made result ≡ repeat limit truths (TruthGiven x) (NumberGiven n) }
     ensures word { IfOk result (λ judged. word_of judged ≡ words.DisB) }
@@ -35,6 +37,7 @@ pub(crate) fn repeat_bool(limit: usize, x: bool, n: i64) -> Result<Judged<'stati
 }
 
 #[tactic(auto, unfolding(crate::specs::Work::distribute))]
+#[inline(always)]
 pub(crate) fn distribute<'a>(
     memory: &'a Memory,
     kind: Kind,
@@ -52,6 +55,7 @@ pub(crate) fn distribute<'a>(
 }
 
 #[tactic(auto, unfolding(crate::specs::Work::index))]
+#[inline(always)]
 pub(crate) fn index(limit: usize, u: i64, v: i64, n: i64) -> Result<Judged<'static>, Fault>
     ensures gives { viewed made result ≡ index limit (NumberGiven u) (NumberGiven v) (NumberGiven n) }
     ensures word { IfOk result (λ judged. word_of judged ≡ words.Ind) }
@@ -61,6 +65,7 @@ pub(crate) fn index(limit: usize, u: i64, v: i64, n: i64) -> Result<Judged<'stat
 }
 
 #[tactic(auto, unfolding(crate::specs::Work::index_segments))]
+#[inline(always)]
 pub(crate) fn index_segments<'a>(
     memory: &'a Memory,
     a: &Name,

@@ -18,6 +18,7 @@ use vector_memory::laws::memories_are_lawful;
 use vector_memory::{Memory, Name};
 
 #[tactic(auto, unfolding(crate::specs::Work::get))]
+#[inline(always)]
 pub(crate) fn get<'a>(memory: &'a Memory, a: &Name) -> Result<Judged<'a>, Fault>
     ensures gives { viewed made result ≡ get (Held (value_at memory.now a.now)) }
     ensures word { IfOk result (λ judged. word_of judged ≡ words.Ask asks.Get) }
@@ -27,6 +28,7 @@ pub(crate) fn get<'a>(memory: &'a Memory, a: &Name) -> Result<Judged<'a>, Fault>
 }
 
 #[tactic(auto, unfolding(crate::specs::Work::mov))]
+#[inline(always)]
 pub(crate) fn mov<'a>(memory: &'a Memory, a: &Name) -> Result<Judged<'a>, Fault>
     ensures gives { viewed made result ≡ mov (Held (value_at memory.now a.now)) }
     ensures word { IfOk result (λ judged. word_of judged ≡ words.One ones.Mov) }
@@ -36,6 +38,7 @@ pub(crate) fn mov<'a>(memory: &'a Memory, a: &Name) -> Result<Judged<'a>, Fault>
 }
 
 #[tactic(auto, unfolding(crate::specs::Work::free))]
+#[inline(always)]
 pub(crate) fn free<'a>(memory: &'a Memory, a: &Name) -> Result<Judged<'a>, Fault>
     ensures gives { viewed made result ≡ free (Held (value_at memory.now a.now)) }
     ensures word { IfOk result (λ judged. word_of judged ≡ words.Ask asks.Free) }
@@ -46,6 +49,7 @@ pub(crate) fn free<'a>(memory: &'a Memory, a: &Name) -> Result<Judged<'a>, Fault
 }
 
 #[tactic(auto, unfolding(crate::specs::Work::alo))]
+#[inline(always)]
 pub(crate) fn alo(limit: usize, n: i64) -> Result<Judged<'static>, Fault>
     ensures gives { viewed made result ≡ alo limit (NumberGiven n) }
     ensures word { IfOk result (λ judged. word_of judged ≡ words.Alo) }
@@ -55,6 +59,7 @@ pub(crate) fn alo(limit: usize, n: i64) -> Result<Judged<'static>, Fault>
 }
 
 #[tactic(auto, unfolding(crate::specs::Work::len))]
+#[inline(always)]
 pub(crate) fn len<'a>(memory: &'a Memory, a: &Name) -> Result<Judged<'a>, Fault>
     ensures gives { viewed made result ≡ len (Held (value_at memory.now a.now)) }
     ensures word { IfOk result (λ judged. word_of judged ≡ words.Ask asks.Len) }
@@ -66,6 +71,7 @@ pub(crate) fn len<'a>(memory: &'a Memory, a: &Name) -> Result<Judged<'a>, Fault>
 }
 
 #[tactic(auto, unfolding(crate::specs::Work::make_segs))]
+#[inline(always)]
 pub(crate) fn make_segs<'a>(memory: &'a Memory, a: &Name) -> Result<Judged<'a>, Fault>
     ensures gives { viewed made result ≡ make_segs memory.now.limit (Held (value_at memory.now a.now)) }
     ensures word { IfOk result (λ judged. word_of judged ≡ words.One ones.MakeSegs) }
@@ -81,6 +87,7 @@ pub(crate) fn make_segs<'a>(memory: &'a Memory, a: &Name) -> Result<Judged<'a>, 
 }
 
 #[tactic(auto, unfolding(crate::specs::Work::len_segs))]
+#[inline(always)]
 pub(crate) fn len_segs<'a>(memory: &'a Memory, s: &Name) -> Result<Judged<'a>, Fault>
     ensures gives { viewed made result ≡ len_segs (Held (value_at memory.now s.now)) }
     ensures word { IfOk result (λ judged. word_of judged ≡ words.One ones.LenSegs) }
