@@ -1,22 +1,14 @@
--- One segment that has all items: what the kernels make of it is what is made of the items. `over_items-packed`: a pack needs
--- no segments.
-use Rattle.std.proofs.Common.{◌≡◌, ℕ, List, [], ◌∷◌, ◌++◌, length, take, drop, refl, sym, ap, ◌∙◌, subst, All, sum, ℤ, Bool, true, false, replicate, arith, zip}
-use Rattle.std.specs.Prelude.{◌&&◌}
-use Rattle.std.specs.List.{flat_map, list_all}
-use Rattle.std.proofs.lemmas.List.{append-nil, length-drop, length-take, take-append-drop, take_all}
+-- An index that holds each place once permutes the one segment that has all items, `once-permutes`, and a pack needs no segments,
+-- `over_items-packed`.
+use Rattle.std.proofs.Common.{◌≡◌, ℕ, List, [], ◌∷◌, ◌++◌, length, take, drop, refl, sym, ap, ◌∙◌, subst, All, sum, ℤ, Bool, arith}
+use Rattle.std.proofs.lemmas.List.{length-drop, length-take, take-append-drop, take_all}
 use Rattle.std.proofs.lemmas.List.Elements.{All-from_recursion}
 use Rattle.std.proofs.lemmas.List.Sums.{sum_by-cons}
 use Rattle.segment_desc.specs.Cut.{cut}
-use Rattle.scan_kernels.specs.Segmented.{reduced, scanned, segmented_scan, segmented_reduce}
-use Rattle.scan_kernels.specs.Distributed.{distributed}
-use Rattle.scan_kernels.specs.Indexed.{indexed, segmented_index}
-use Rattle.permute_kernels.specs.Gathered.{gathered, segmented_gather}
 use Rattle.permute_kernels.specs.Indices.{HoldsEachPlaceOnce, PermuteSegments}
 use Rattle.permute_kernels.specs.Packed.{packed}
-use Rattle.permute_kernels.specs.Permuted.{permuted, segmented_permute}
 use Rattle.permute_kernels.proofs.Joining.{packed-append}
 use Rattle.vector_memory.specs.Contents.{Content, Ints, Bools, Segs, size_of}
-use Rattle.cvl_calls.specs.Conditions.{holds_each_place, permutes, is_place, lies_within}
 use Rattle.cvl_calls.specs.Operands.{over_items}
 use Rattle.cvl_calls.specs.SegmentedPack.{segmented_pack}
 
@@ -24,51 +16,11 @@ module _ {X : Type 0} (xs : List X) where
   pub cut-whole : cut (length xs ∷ []) xs ≡ xs ∷ []
   cut-whole = ap (λ l. l ∷ []) (take_all (length xs) xs (omega arith))
 
-module _ {X : Type 0} (op : X → X → X) (unit : X) (xs : List X) where
-  pub segmented_scan-whole : segmented_scan op unit (length xs ∷ []) xs ≡ scanned op unit xs
-  segmented_scan-whole = ap (flat_map (scanned op unit)) (cut-whole xs) ∙ append-nil (scanned op unit xs)
-
-  pub segmented_reduce-whole : segmented_reduce op unit (length xs ∷ []) xs ≡ reduced op unit xs ∷ []
-  segmented_reduce-whole = ap (λ (l : List X). reduced op unit l ∷ []) (take_all (length xs) xs (omega arith))
-
-pub distributed-whole : {X : Type 0} (n : ℕ) (x : X) → distributed (n ∷ []) (x ∷ []) ≡ replicate n x
-distributed-whole n x = append-nil (replicate n x)
-
-pub segmented_index-whole : (u v : ℤ) (n : ℕ) → segmented_index (n ∷ []) (u ∷ []) (v ∷ []) ≡ indexed u v n
-segmented_index-whole u v n = append-nil (indexed u v n)
-
-and_true : (b : Bool) → (b && true) ≡ b
-and_true true = refl
-and_true false = refl
-
-pub permutes-whole : (index : List ℤ) → permutes (length index ∷ []) index ≡ holds_each_place index
-permutes-whole index = ap (list_all holds_each_place) (cut-whole index) ∙ and_true (holds_each_place index)
-
-pub lies_within-whole : (n : ℕ) (index : List ℤ) → lies_within (n ∷ []) (length index ∷ []) index ≡ list_all (is_place n) index
-lies_within-whole n index =
-    ap (λ (pieces : List (List ℤ)). list_all (λ p. list_all (is_place p.0) p.1) (zip (n ∷ []) pieces)) (cut-whole index) ∙ and_true (list_all (is_place n) index)
-
 pub once-permutes : (ls : List ℕ) (index : List ℤ) → ls ≡ length index ∷ [] → HoldsEachPlaceOnce index → PermuteSegments ls index
 unfolding PermuteSegments
 once-permutes ls index whole once =
     let one : All HoldsEachPlaceOnce (index ∷ []) = All-from_recursion HoldsEachPlaceOnce (index ∷ []) (once, tt) in
     rw whole (subst (All HoldsEachPlaceOnce) (sym (cut-whole index)) one)
-
-module _ {X : Type 0} (index : List ℤ) (xs : List X) where
-  pub segmented_permute-whole : length xs ≡ length index → segmented_permute (length index ∷ []) index xs ≡ permuted index xs
-  segmented_permute-whole same =
-      let move : List ℤ × List X → List X = λ p. permuted p.0 p.1 in
-      ap (λ (pieces : List (List ℤ)). flat_map move (zip pieces (cut (length index ∷ []) xs))) (cut-whole index)
-      ∙ ap (λ (n : ℕ). flat_map move (zip (index ∷ []) (cut (n ∷ []) xs))) (sym same)
-      ∙ ap (λ (pieces : List (List X)). flat_map move (zip (index ∷ []) pieces)) (cut-whole xs)
-      ∙ append-nil (permuted index xs)
-
-  pub segmented_gather-whole : segmented_gather (length xs ∷ []) xs (length index ∷ []) index ≡ gathered index xs
-  segmented_gather-whole =
-      let read : List X × List ℤ → List X = λ p. gathered p.1 p.0 in
-      ap (λ (pieces : List (List ℤ)). flat_map read (zip (cut (length xs ∷ []) xs) pieces)) (cut-whole index)
-      ∙ ap (λ (pieces : List (List X)). flat_map read (zip pieces (index ∷ []))) (cut-whole xs)
-      ∙ append-nil (gathered index xs)
 
 -- the packed segments joined are the pack of all items
 module _ {X : Type 0} where
