@@ -3,7 +3,7 @@
 ghost use Rattle.std.specs.Prelude.{◌≡◌, false, IfOk, OnErr, true};
 ghost use Rattle.cvl_text.specs.Tasks.{task_of};
 ghost use Rattle.cvl_calls.specs.Judging.{IsReady, made, word_of};
-ghost use Rattle.cvl_calls.specs.Outcomes.{GivesBy, IsAnswered, IsFittingEffect, fault_in, operands_of};
+ghost use Rattle.cvl_calls.specs.Outcomes.{GivesBy, IsAnswered, IsFittingEffect, fault_in, operands_of, viewed};
 ghost use Rattle.cvl_calls.specs.Runs.{tests_index};
 ghost use Rattle.cvl_calls.specs.Work.{work};
 
@@ -50,7 +50,8 @@ pub fn check(alloc: Global, memory: &Memory, call: &Call) -> Result<Option<Fault
     }
 }
 
-/// The same, by the shape of the call.
+// A permutation is tested by marks, which take memory.
+#[inline(always)]
 fn by_shape<'a>(alloc: Global, memory: &'a Memory, call: &'a Call) -> Result<Judged<'a>, Stop>
     ensures gives { let task = task_of call.now in
         GivesBy (tests_index task.word) made result (work memory.now.limit task.word (operands_of memory.now task.arguments)) }
@@ -59,59 +60,6 @@ fn by_shape<'a>(alloc: Global, memory: &'a Memory, call: &'a Call) -> Result<Jud
     ensures ready { IfOk result IsReady }
 {
     match call {
-        Call::SetInts { items, .. } => Ok(set_ints(memory.limit(), items)?),
-        Call::SetBools { items, .. } => Ok(set_bools(memory.limit(), items)?),
-        Call::Get { a } => Ok(get(memory, a)?),
-        Call::Mov { a, .. } => Ok(mov(memory, a)?),
-        Call::Free { a } => Ok(free(memory, a)?),
-        Call::Alo { n, .. } => Ok(alo(memory.limit(), *n)?),
-        Call::Len { a } => Ok(len(memory, a)?),
-        Call::MakeSegs { a, .. } => Ok(make_segs(memory, a)?),
-        Call::LenSegs { s, .. } => Ok(len_segs(memory, s)?),
-        Call::MapZ2 { op, a, b, .. } => Ok(map_ints(memory, *op, a, b)?),
-        Call::MapZ1 { op, a, .. } => Ok(alter_ints(memory, *op, a)?),
-        Call::CmpZ { op, a, b, .. } => Ok(compare(memory, *op, a, b)?),
-        Call::MapB2 { op, a, b, .. } => Ok(map_bools(memory, *op, a, b)?),
-        Call::MapB1 { op, a, .. } => Ok(alter_bools(memory, *op, a)?),
-        Call::Sel {
-            kind: Kind::Z,
-            f,
-            a,
-            b,
-            ..
-        } => Ok(select_ints(memory, f, a, b)?),
-        Call::Sel {
-            kind: Kind::B,
-            f,
-            a,
-            b,
-            ..
-        } => Ok(select_bools(memory, f, a, b)?),
-        Call::Boo { a, .. } => Ok(truths_of(memory, a)?),
-        Call::IntOf { a, .. } => Ok(numbers_of(memory, a)?),
-        Call::ScanOfZ { op, a, s: None, .. } => Ok(scan_ints(memory, *op, a)?),
-        Call::ScanOfZ {
-            op,
-            a,
-            s: Some(s),
-            ..
-        } => Ok(scan_int_segments(memory, *op, a, s)?),
-        Call::ScanOfB { op, a, s: None, .. } => Ok(scan_bools(memory, *op, a)?),
-        Call::ScanOfB {
-            op,
-            a,
-            s: Some(s),
-            ..
-        } => Ok(scan_bool_segments(memory, *op, a, s)?),
-        Call::RedZ { op, a } => Ok(reduce_ints(memory, *op, a)?),
-        Call::RedB { op, a } => Ok(reduce_bools(memory, *op, a)?),
-        Call::RedSegZ { op, a, s, .. } => Ok(reduce_int_segments(memory, *op, a, s)?),
-        Call::RedSegB { op, a, s, .. } => Ok(reduce_bool_segments(memory, *op, a, s)?),
-        Call::DisZ { x, n, .. } => Ok(repeat_int(memory.limit(), *x, *n)?),
-        Call::DisB { x, n, .. } => Ok(repeat_bool(memory.limit(), *x, *n)?),
-        Call::DisSeg { kind, a, s, .. } => Ok(distribute(memory, *kind, a, s)?),
-        Call::Ind { u, v, n, .. } => Ok(index(memory.limit(), *u, *v, *n)?),
-        Call::IndSeg { a, b, s, .. } => Ok(index_segments(memory, a, b, s)?),
         Call::Smp {
             kind,
             a,
@@ -126,7 +74,74 @@ fn by_shape<'a>(alloc: Global, memory: &'a Memory, call: &'a Call) -> Result<Jud
             s: Some(s),
             ..
         } => permute_segments(alloc, memory, *kind, a, i, s),
-        Call::Bck { kind, a, i, .. } => Ok(gather(memory, *kind, a, i)?),
+        _ => Ok(judge_at_once(memory, call)?),
+    }
+}
+
+/// The checks of a call whose index, if it has one, is tested without memory: of each but `smp_*`.
+#[inline(always)]
+fn judge_at_once<'a>(memory: &'a Memory, call: &'a Call) -> Result<Judged<'a>, Fault>
+    requires { tests_index (task_of call.now).word ≡ false }
+    ensures gives { let task = task_of call.now in
+        viewed made result ≡ work memory.now.limit task.word (operands_of memory.now task.arguments) }
+    ensures word { IfOk result (λ judged. word_of judged ≡ (task_of call.now).word) }
+    ensures ready { IfOk result IsReady }
+{
+    match call {
+        Call::SetInts { items, .. } => set_ints(memory.limit(), items),
+        Call::SetBools { items, .. } => set_bools(memory.limit(), items),
+        Call::Get { a } => get(memory, a),
+        Call::Mov { a, .. } => mov(memory, a),
+        Call::Free { a } => free(memory, a),
+        Call::Alo { n, .. } => alo(memory.limit(), *n),
+        Call::Len { a } => len(memory, a),
+        Call::MakeSegs { a, .. } => make_segs(memory, a),
+        Call::LenSegs { s, .. } => len_segs(memory, s),
+        Call::MapZ2 { op, a, b, .. } => map_ints(memory, *op, a, b),
+        Call::MapZ1 { op, a, .. } => alter_ints(memory, *op, a),
+        Call::CmpZ { op, a, b, .. } => compare(memory, *op, a, b),
+        Call::MapB2 { op, a, b, .. } => map_bools(memory, *op, a, b),
+        Call::MapB1 { op, a, .. } => alter_bools(memory, *op, a),
+        Call::Sel {
+            kind: Kind::Z,
+            f,
+            a,
+            b,
+            ..
+        } => select_ints(memory, f, a, b),
+        Call::Sel {
+            kind: Kind::B,
+            f,
+            a,
+            b,
+            ..
+        } => select_bools(memory, f, a, b),
+        Call::Boo { a, .. } => truths_of(memory, a),
+        Call::IntOf { a, .. } => numbers_of(memory, a),
+        Call::ScanOfZ { op, a, s: None, .. } => scan_ints(memory, *op, a),
+        Call::ScanOfZ {
+            op,
+            a,
+            s: Some(s),
+            ..
+        } => scan_int_segments(memory, *op, a, s),
+        Call::ScanOfB { op, a, s: None, .. } => scan_bools(memory, *op, a),
+        Call::ScanOfB {
+            op,
+            a,
+            s: Some(s),
+            ..
+        } => scan_bool_segments(memory, *op, a, s),
+        Call::RedZ { op, a } => reduce_ints(memory, *op, a),
+        Call::RedB { op, a } => reduce_bools(memory, *op, a),
+        Call::RedSegZ { op, a, s, .. } => reduce_int_segments(memory, *op, a, s),
+        Call::RedSegB { op, a, s, .. } => reduce_bool_segments(memory, *op, a, s),
+        Call::DisZ { x, n, .. } => repeat_int(memory.limit(), *x, *n),
+        Call::DisB { x, n, .. } => repeat_bool(memory.limit(), *x, *n),
+        Call::DisSeg { kind, a, s, .. } => distribute(memory, *kind, a, s),
+        Call::Ind { u, v, n, .. } => index(memory.limit(), *u, *v, *n),
+        Call::IndSeg { a, b, s, .. } => index_segments(memory, a, b, s),
+        Call::Bck { kind, a, i, .. } => gather(memory, *kind, a, i),
         Call::BckSeg {
             kind,
             a,
@@ -134,23 +149,24 @@ fn by_shape<'a>(alloc: Global, memory: &'a Memory, call: &'a Call) -> Result<Jud
             i,
             t,
             ..
-        } => Ok(gather_segments(memory, *kind, a, s, i, t)?),
+        } => gather_segments(memory, *kind, a, s, i, t),
         Call::Pck {
             kind,
             a,
             f,
             s: None,
             ..
-        } => Ok(pack(memory, *kind, a, f)?),
+        } => pack(memory, *kind, a, f),
         Call::Pck {
             kind,
             a,
             f,
             s: Some(s),
             ..
-        } => Ok(pack_segments(memory, *kind, a, f, s)?),
-        Call::Pkl { f, s, .. } => Ok(pack_lengths(memory, f, s)?),
-        Call::Ext { a, p } => Ok(extract(memory, a, *p)?),
-        Call::Rep { a, p, x, .. } => Ok(replace(memory, a, *p, *x)?),
+        } => pack_segments(memory, *kind, a, f, s),
+        Call::Pkl { f, s, .. } => pack_lengths(memory, f, s),
+        Call::Ext { a, p } => extract(memory, a, *p),
+        Call::Rep { a, p, x, .. } => replace(memory, a, *p, *x),
+        Call::Smp { .. } => unreachable!(),
     }
 }
