@@ -1,4 +1,4 @@
--- A replay goes call by call, and keeps the room.
+-- A replay goes call by call, and keeps the room and the limit.
 use Rattle.std.proofs.Common.{◌≡◌, ℕ, suc, length, slice_get, List, [], ◌∷◌, ◌++◌, Option, Some, None, Result, Ok, Err, refl, sym, ap, ◌∙◌}
 use Rattle.vector_memory.specs.declared.name.Name.{Name}
 use Rattle.vector_memory.specs.declared.memory.StoreFault.{StoreFault}
@@ -37,7 +37,7 @@ room-followed m to (Ok effect) = room-applied m to effect
 room-followed m to (Err fault) = refl
 
 pub room-stepped : (m : State) (t : Task) → (stepped m t).memory.room ≡ m.room
-room-stepped m t = room-followed m (target t) (work t.word (operands_of m t.arguments))
+room-stepped m t = room-followed m (target t) (work m.limit t.word (operands_of m t.arguments))
 
 pub room-replay_from : (m : State) (history : List Entry) → (replay_from m history).room ≡ m.room
 room-replay_from m [] = refl

@@ -15,6 +15,7 @@ use cvl_text::{Call, Reply};
 use std::alloc::Global;
 use std::marker::Model;
 use std::thread::Threads;
+use vector_memory::laws::memories_are_lawful;
 use vector_memory::{Memory, OutOfMemory};
 
 /// The greatest number of callers.
@@ -149,6 +150,7 @@ impl Book {
     pub fn audit(&self, rt: &(impl Threads + Sync), alloc: Global) -> Result<bool, OutOfMemory>
         ensures { IfOk result IsTrue }
     {
+        memories_are_lawful(&self.memory);
         let anew = replayed(rt, alloc, self.memory.room(), &self.entries)?;
         Ok(holds_the_same(&anew, &self.memory))
     }
@@ -158,6 +160,7 @@ impl Book {
         ensures room { result ≡ self.now.room }
         ensures lawful { IsLawfulRoom self.now.room }
     {
+        memories_are_lawful(&self.memory);
         self.memory.room()
     }
 }
