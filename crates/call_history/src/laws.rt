@@ -1,7 +1,7 @@
 //! Laws of the definitions that the contracts cite: each function does nothing, and its contract is the law.
 
 ghost use Rattle.std.specs.Prelude.{◌≡◌, ◌≢◌, ◌+◌, ◌≤◌, ◌∷◌, ◌++◌, [], ℕ, List, Some, None, length, take, slice_get};
-ghost use Rattle.vector_memory.specs.States.{State, empty};
+ghost use Rattle.vector_memory.specs.States.{State, empty, item_limit};
 ghost use Rattle.cvl_text.specs.declared.call.Call.{Call};
 ghost use Rattle.cvl_text.specs.declared.reply.Reply.{Reply};
 ghost use Rattle.cvl_text.specs.Answers.{Answer, answer_of};
@@ -14,11 +14,12 @@ ghost use Rattle.call_history.specs.Callers.{calls_by};
 ghost use Rattle.call_history.specs.Answers.{Answers};
 ghost use Rattle.call_history.specs.Fits.{Fits, Serves, asked_by, request, request_by};
 
-/// A history is replayed part by part, and keeps the room.
+/// A history is replayed part by part, and keeps the room, and the limit that a memory is made with.
 pub fn replays_go_on()
     ensures parts { (m : State) (first rest : List Entry)
         → replay_from m (first ++ rest) ≡ replay_from (replay_from m first) rest }
     ensures room { (room : ℕ) (history : List Entry) → (replay room history).room ≡ room }
+    ensures limit { (room : ℕ) (history : List Entry) → (replay room history).limit ≡ item_limit }
 {}
 
 /// There is a reply to each entry, at its place, and what comes later does not change it.
