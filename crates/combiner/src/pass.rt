@@ -18,7 +18,7 @@ fn take_all(
     seat: &mut Seat,
     callers: usize,
     requests: &mut Vec<Request>,
-    numbers: &mut [usize; 64],
+    numbers: &mut [u8; 64],
 )
     requires place { seat.old.table_id ≡ slots.now }
     requires callers { (callers + 1 ≡ slots.now.slots) × (callers ≤ 64) }
@@ -30,8 +30,11 @@ fn take_all(
     ensures spaces { vec_capacity requests.new ≡ vec_capacity requests.old }
 {
     for i in 0..callers {
+        if slots.passes_by(seat, i) {
+            continue;
+        }
         if let Some(request) = slots.step_take(seat, i) {
-            numbers[requests.len()] = i;
+            numbers[requests.len()] = i as u8;
             requests.push_reserved(request);
         }
     }
@@ -79,7 +82,7 @@ fn answer_all(
     slots: &Slots,
     seat: &mut Seat,
     callers: usize,
-    numbers: &[usize; 64],
+    numbers: &[u8; 64],
     outcomes: &mut Vec<Outcome>,
 )
     requires place { seat.old.table_id ≡ slots.now }
@@ -93,7 +96,7 @@ fn answer_all(
 {
     while let Some(outcome) = outcomes.pop() {
         let left = outcomes.len();
-        slots.step_answer(seat, numbers[left], left, 0, outcome);
+        slots.step_answer(seat, numbers[left] as usize, left, 0, outcome);
     }
 }
 
@@ -115,7 +118,7 @@ pub(crate) fn pass(
     ensures busy { IfNone result (Meets slots.now.slots seat.old.known seat.new.known) }
 {
     let mut desk = slots.step_lock(seat)?;
-    let mut numbers = [0usize; 64];
+    let mut numbers = [0u8; 64];
     take_all(slots, seat, callers, &mut desk.requests, &mut numbers);
     let count = desk.requests.len();
     let open = &mut *desk;

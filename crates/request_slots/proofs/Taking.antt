@@ -24,10 +24,12 @@ use Rattle.request_slots.specs.Passes.{held_by, is_in, Part, part_of, takes_on, 
 use Rattle.request_slots.specs.Requests.{StageHolds, ServedHolds, request_at}
 use Rattle.request_slots.specs.Lawful.{Knows, Lawful}
 use Rattle.request_slots.specs.Views.{known_of, pass_in, passing}
-use Rattle.request_slots.specs.Events.{Sat, Takes}
+use Rattle.request_slots.specs.Locks.{HolderSits}
+use Rattle.atomic_table.proofs.Lists.{set_again}
+use Rattle.request_slots.specs.Events.{Sat, Takes, Skips}
 use Rattle.request_slots.proofs.Stations.{Abides, abides_self, put, put_here, put_else}
 use Rattle.request_slots.proofs.Holders.{holder_begins, seats_apart}
-use Rattle.request_slots.proofs.Carrying.{seats_after, seen_by, made_by_stage, moved}
+use Rattle.request_slots.proofs.Carrying.{seats_after, seen_by, made_by_stage, moved, view_step}
 use Rattle.request_slots.proofs.RequestLists.{is_in-push}
 use Rattle.request_slots.proofs.Passing.{staged, mine, holds_pass, own_knows, others_stay, serve_step, open_before}
 
@@ -155,5 +157,29 @@ takes_request room slots id i me is has near untried s r deep at small =
       keeps,
       tt,
       subst (λ b. Lawful room (stepped s (i + 2) (either b 3 x) id me.1 (Caller (passing c (tries p i))) keeps)) (sym (ne_eqb x 2 miss)) (miss_keeps room s r id c there p has i inside untried miss),
+      λ j e. let same : i ≡ j = omega arith in ((λ hit. absurd (miss hit)), λ _. ap (λ (z : ℕ). let m : Sat = (Caller (passing c (tries p z)), me.1) in m) same),
+    ))
+
+-- a look at the word first
+pub skips_request : (room slots id i : ℕ) (me : Sat) → me.0 ≡ Caller (known_of me.0) → (known_of me.0).pass ≡ Some (pass_in (known_of me.0)) → i + 1 < slots → is_in (pass_in (known_of me.0)).tried i ≡ false
+    → Allows (Lawful room) slots id me (i + 2) (λ x. x) (Skips (step slots (i + 2) 0 0 none) me)
+skips_request room slots id i me is has near untried s r deep at small =
+    let c : Known = known_of me.0 in let p : Pass = pass_in c in let x : ℕ = get_or s.words (i + 2) 0 in
+    let there : get_elem? s.views id ≡ some (Caller c) = at ∙ ap (λ (v : View). some v) is in
+    let sized : slots ≡ r.n + 1 = sym deep ∙ r.deep in
+    let inside : i < r.n = omega arith in
+    dite (ℕ_discrete x 2)
+    (λ hit. (
+      me.0,
+      keeps,
+      tt,
+      view_step room s r (i + 2) id me.0 (r.each_seat id me.0 at) (subst (λ vs. HolderSits vs r.station r.lock) (sym (set_again s.views id me.0 at)) r.holder_sits),
+      λ j e. ((λ _. refl), λ miss. absurd (miss hit)),
+    ))
+    (λ miss. (
+      Caller (passing c (tries p i)),
+      keeps,
+      tt,
+      miss_keeps room s r id c there p has i inside untried miss,
       λ j e. let same : i ≡ j = omega arith in ((λ hit. absurd (miss hit)), λ _. ap (λ (z : ℕ). let m : Sat = (Caller (passing c (tries p z)), me.1) in m) same),
     ))

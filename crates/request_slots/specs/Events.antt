@@ -57,6 +57,12 @@ Takes st m found m' = (i : ℕ) → st.word ≡ i + 2
     × (m'.1 ≡ (i + 1, Asked call) ∷ m.1))
     × (found ≢ 2 → m' ≡ (Caller (passing (known_of m.0) (tries (pass_in (known_of m.0)) i)), m.1))
 
+-- a look at a word before a try: where nothing is posted the word counts as tried, else nothing changes
+abbrev pub Skips : Step Slot → Sat → ℕ → Sat → Type 0
+Skips st m found m' = (i : ℕ) → st.word ≡ i + 2
+    → (found ≡ 2 → m' ≡ m)
+    × (found ≢ 2 → m' ≡ (Caller (passing (known_of m.0) (tries (pass_in (known_of m.0)) i)), m.1))
+
 -- the line becomes this one, with these outcomes
 abbrev pub Commits : List Entry → List Outcome → Step Slot → Sat → ℕ → Sat → Type 0
 Commits line outcomes st m found m' = m' ≡ (Caller (committing (known_of m.0) (pass_in (known_of m.0)) line outcomes), m.1)

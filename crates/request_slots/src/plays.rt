@@ -2,7 +2,7 @@
 
 ghost use Rattle.request_slots.specs.declared.known.View.TheVariants.{Spent};
 ghost use Rattle.request_slots.specs.Views.{next_maker, next_caller, bare_view, sees_also};
-ghost use Rattle.request_slots.specs.Events.{Posts, Collects, Locks, Takes, Tells, Unlocks, Looks, Adopts, Arrives};
+ghost use Rattle.request_slots.specs.Events.{Posts, Collects, Locks, Takes, Skips, Tells, Unlocks, Looks, Adopts, Arrives};
 
 use crate::desk::Slot;
 use crate::known::View;
@@ -30,6 +30,12 @@ pub(crate) struct Take;
 
 impl Play<Slot, View> for Take {
     ghost then = { Takes };
+}
+
+pub(crate) struct Skip;
+
+impl Play<Slot, View> for Skip {
+    ghost then = { Skips };
 }
 
 pub(crate) struct Tell;
