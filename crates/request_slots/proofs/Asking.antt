@@ -71,7 +71,7 @@ module _ (room : ℕ) (s : State Slot View) (r : Lawful room s) (id : ℕ) (c : 
       let phase = subst (PhaseHolds c.number c.seen c.own here) at_rest knows.phase in
       let stage = subst (StageHolds room r.line (part_of r.lock c.number) (get_elem? s.homes (c.number + 1)) c.number here) phase.stage_is held.stage_holds in
       let rises = put_rises r.station c.number st (λ e. e) in
-      caller_step room s r c.number 2 (some (Asked call)) st r.lock id (Caller (leaving c (call ∷ []))) inside knows.number_made (λ i other. refl)
+      caller_step room s r c.number 2 (some (Asked call)) st r.lock id (Caller c) (Caller (leaving c (call ∷ []))) inside knows.number_made there refl refl (λ i other. refl)
       record {
         word_is = refl;
         request_is = held.request_is ∙ ap (λ (z : Stage). request_at z here.calls) phase.stage_is;
@@ -103,7 +103,7 @@ module _ (room : ℕ) (s : State Slot View) (r : Lawful room s) (id : ℕ) (c : 
       let st : Station = record { stage = idle; seat = here.seat; own = own; calls = here.calls; start = here.start; held = here.held } in
       let held = r.each_caller c.number inside in
       let rises = put_rises r.station c.number st (λ e. e) in
-      caller_step room s r c.number 1 none st r.lock id (Caller (collected seen own)) inside knows.number_made (λ i other. refl)
+      caller_step room s r c.number 1 none st r.lock id (Caller c) (Caller (collected seen own)) inside knows.number_made there refl refl (λ i other. refl)
       record {
         word_is = refl;
         request_is = held.request_is ∙ ap (λ (z : Stage). request_at z here.calls) at_end;
@@ -189,7 +189,7 @@ collects_at room slots id me is left s r deep at small =
       keeps,
       tt,
       subst (λ b. Lawful room (stepped s i (either b 1 x) id me.1 me.0 keeps)) (sym (ne_eqb x 4 miss))
-          (view_step room s r i id me.0 (r.each_seat id me.0 at) (subst (λ vs. HolderSits vs r.station r.lock) (sym (set_again s.views id me.0 at)) r.holder_sits)),
+          (view_step room s r i id me.0 me.0 at refl (r.each_seat id me.0 at) (subst (λ vs. HolderSits vs r.station r.lock) (sym (set_again s.views id me.0 at)) r.holder_sits)),
       ((λ hit. absurd (miss hit)), λ _. (refl, not_true c.settled (λ e. miss (held.word_is ∙ ap code (knows.settled.done e))))),
     ))
 

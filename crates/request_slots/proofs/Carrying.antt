@@ -15,11 +15,11 @@ use Rattle.request_slots.specs.declared.desk.Slot.{Slot}
 use Rattle.request_slots.specs.declared.known.View.{View}
 use Rattle.request_slots.specs.Stages.{Stage, unmade, idle, posted, taken, done, Station, Home}
 use Rattle.request_slots.specs.Passes.{Lock, Part, part_of}
-use Rattle.request_slots.specs.Locks.{LockHolds, HolderSits}
+use Rattle.request_slots.specs.Locks.{LockHolds, HolderSits, caller_of}
 use Rattle.request_slots.specs.Requests.{StageHolds, request_at, CallerHolds}
 use Rattle.request_slots.specs.Lawful.{Knows, IsNotMade, Lawful}
-use Rattle.request_slots.proofs.Stations.{put, put_here, put_else}
-use Rattle.request_slots.proofs.Holders.{seats_apart}
+use Rattle.request_slots.proofs.Stations.{put, put_here, put_else, put_seat}
+use Rattle.request_slots.proofs.Holders.{seats_apart, made_sit_after}
 
 -- all seats after a step: the stepper's own view, and each other's as it was
 pub seats_after : (F F' : ℕ → View → Type 0) (views : List View) (me : ℕ) (w : View) → F' me w → ((j : ℕ) → j ≢ me → (v : View) → F j v → F' j v)
@@ -72,13 +72,14 @@ callers_after room n line part part' words homes station i st x y wide deep insi
 abbrev pub moved : State Slot View → ℕ → ℕ → maybe.Option Slot → ℕ → View → State Slot View
 moved s i x y me w = record { words = set s.words (i + 2) x; homes = set s.homes (i + 1) y; views = set s.views me w }
 
-pub caller_step : (room : ℕ) (s : State Slot View) (r : Lawful room s) (i x : ℕ) (y : maybe.Option Slot) (st : Station) (lock : Lock) (me : ℕ) (w : View) → i < r.n → i < r.made
+pub caller_step : (room : ℕ) (s : State Slot View) (r : Lawful room s) (i x : ℕ) (y : maybe.Option Slot) (st : Station) (lock : Lock) (me : ℕ) (v w : View) → i < r.n → i < r.made
+    → get_elem? s.views me ≡ some v → caller_of w ≡ caller_of v → st.seat ≡ (r.station i).seat
     → ((k : ℕ) → k ≢ i → part_of lock k ≡ part_of r.lock k) → CallerHolds room r.line (part_of lock i) x (some y) i st
     → LockHolds room r.n r.line (get_or s.words 0 0) (get_elem? s.homes 0) lock
     → Knows room r.n r.made r.line lock (put r.station i st) me w
     → ((j : ℕ) → j ≢ me → (v : View) → Knows room r.n r.made r.line r.lock r.station j v → Knows room r.n r.made r.line lock (put r.station i st) j v)
     → HolderSits (set s.views me w) (put r.station i st) lock → Lawful room (moved s i x y me w)
-caller_step room s r i x y st lock me w inside made parts here locked mine others holder =
+caller_step room s r i x y st lock me v w inside made there same seat parts here locked mine others holder =
     let seats = seats_after (Knows room r.n r.made r.line r.lock r.station) (Knows room r.n r.made r.line lock (put r.station i st)) s.views me w mine others r.each_seat in
     record {
       n = r.n;
@@ -94,6 +95,7 @@ caller_step room s r i x y st lock me w inside made parts here locked mine other
           (λ j. (sym (get_or-set_other s.words (i + 2) 0 x 0 (λ e. omega arith)) j, sym (set_else s.homes (i + 1) 0 y (λ e. omega arith)) j)) locked;
       holder_sits = holder;
       sit_apart = seats_apart room r.n r.made r.line lock (put r.station i st) (set s.views me w) seats;
+      made_sit = made_sit_after s.views r.station (put r.station i st) r.made me v w there same (put_seat r.station i st seat) r.made_sit;
       each_caller = callers_after room r.n r.line (part_of r.lock) (part_of lock) s.words s.homes r.station i st x y r.wide r.deep inside parts here r.each_caller;
       each_seat = seats;
     }
@@ -102,9 +104,9 @@ caller_step room s r i x y st lock me w inside made parts here locked mine other
 abbrev pub seen_by : State Slot View → ℕ → ℕ → View → State Slot View
 seen_by s i me w = record { words = set s.words i (get_or s.words i 0); homes = s.homes; views = set s.views me w }
 
-pub view_change : (room : ℕ) (s : State Slot View) (r : Lawful room s) (me : ℕ) (w : View) → Knows room r.n r.made r.line r.lock r.station me w → HolderSits (set s.views me w) r.station r.lock
+pub view_change : (room : ℕ) (s : State Slot View) (r : Lawful room s) (me : ℕ) (v w : View) → get_elem? s.views me ≡ some v → caller_of w ≡ caller_of v → Knows room r.n r.made r.line r.lock r.station me w → HolderSits (set s.views me w) r.station r.lock
     → Lawful room record { words = s.words; homes = s.homes; views = set s.views me w }
-view_change room s r me w mine holder =
+view_change room s r me v w there same mine holder =
     let seats = seats_after (Knows room r.n r.made r.line r.lock r.station) (Knows room r.n r.made r.line r.lock r.station) s.views me w mine (λ j other v h. h) r.each_seat in
     record {
       n = r.n;
@@ -119,25 +121,26 @@ view_change room s r me w mine holder =
       lock_holds = r.lock_holds;
       holder_sits = holder;
       sit_apart = seats_apart room r.n r.made r.line r.lock r.station (set s.views me w) seats;
+      made_sit = made_sit_after s.views r.station r.station r.made me v w there same (λ _. refl) r.made_sit;
       each_caller = r.each_caller;
       each_seat = seats;
     }
 
-pub view_step : (room : ℕ) (s : State Slot View) (r : Lawful room s) (i me : ℕ) (w : View) → Knows room r.n r.made r.line r.lock r.station me w → HolderSits (set s.views me w) r.station r.lock → Lawful room (seen_by s i me w)
-view_step room s r i me w mine holder =
-    subst (λ (ws : List ℕ). Lawful room record { words = ws; homes = s.homes; views = set s.views me w }) (sym (set-get_or s.words i 0)) (view_change room s r me w mine holder)
+pub view_step : (room : ℕ) (s : State Slot View) (r : Lawful room s) (i me : ℕ) (v w : View) → get_elem? s.views me ≡ some v → caller_of w ≡ caller_of v → Knows room r.n r.made r.line r.lock r.station me w → HolderSits (set s.views me w) r.station r.lock → Lawful room (seen_by s i me w)
+view_step room s r i me v w there same mine holder =
+    subst (λ (ws : List ℕ). Lawful room record { words = ws; homes = s.homes; views = set s.views me w }) (sym (set-get_or s.words i 0)) (view_change room s r me v w there same mine holder)
 
 -- the table after a step on the lock and the slot of the desk
 abbrev pub handed : State Slot View → ℕ → maybe.Option Slot → ℕ → View → State Slot View
 handed s x y me w = record { words = set s.words 0 x; homes = set s.homes 0 y; views = set s.views me w }
 
-pub lock_step : (room : ℕ) (s : State Slot View) (r : Lawful room s) (x : ℕ) (y : maybe.Option Slot) (station : ℕ → Station) (lock : Lock) (me : ℕ) (w : View)
-    → ((k : ℕ) → r.made ≤ k → IsNotMade (station k)) → LockHolds room r.n r.line x (some y) lock
+pub lock_step : (room : ℕ) (s : State Slot View) (r : Lawful room s) (x : ℕ) (y : maybe.Option Slot) (station : ℕ → Station) (lock : Lock) (me : ℕ) (v w : View)
+    → get_elem? s.views me ≡ some v → caller_of w ≡ caller_of v → ((k : ℕ) → (station k).seat ≡ (r.station k).seat) → ((k : ℕ) → r.made ≤ k → IsNotMade (station k)) → LockHolds room r.n r.line x (some y) lock
     → ((k : ℕ) → k < r.n → CallerHolds room r.line (part_of lock k) (get_or s.words (k + 2) 0) (get_elem? s.homes (k + 1)) k (station k))
     → Knows room r.n r.made r.line lock station me w
     → ((j : ℕ) → j ≢ me → (v : View) → Knows room r.n r.made r.line r.lock r.station j v → Knows room r.n r.made r.line lock station j v)
     → HolderSits (set s.views me w) station lock → Lawful room (handed s x y me w)
-lock_step room s r x y station lock me w above locked callers mine others holder =
+lock_step room s r x y station lock me v w there same seats_are above locked callers mine others holder =
     let seats = seats_after (Knows room r.n r.made r.line r.lock r.station) (Knows room r.n r.made r.line lock station) s.views me w mine others r.each_seat in
     record {
       n = r.n;
@@ -153,6 +156,7 @@ lock_step room s r x y station lock me w above locked callers mine others holder
           (λ j. (sym (get_or-set_same s.words 0 x 0 (omega arith)) j, sym (set_here s.homes 0 y (omega arith)) j)) locked;
       holder_sits = holder;
       sit_apart = seats_apart room r.n r.made r.line lock station (set s.views me w) seats;
+      made_sit = made_sit_after s.views r.station station r.made me v w there same seats_are r.made_sit;
       each_caller = λ k lt. caller_stays room r.line (part_of lock k) (part_of lock k) s.words (set s.words 0 x) s.homes (set s.homes 0 y) k (station k) (station k) refl refl
           (get_or-set_other s.words 0 (k + 2) x 0 (λ e. omega arith)) (set_else s.homes 0 (k + 1) y (λ e. omega arith)) (callers k lt);
       each_seat = seats;
@@ -177,6 +181,7 @@ relocked room s r lock e = record {
   lock_holds = subst (LockHolds room r.n r.line (get_or s.words 0 0) (get_elem? s.homes 0)) e r.lock_holds;
   holder_sits = subst (HolderSits s.views r.station) e r.holder_sits;
   sit_apart = r.sit_apart;
+  made_sit = r.made_sit;
   each_caller = subst (λ l. (k : ℕ) → k < r.n → CallerHolds room r.line (part_of l k) (get_or s.words (k + 2) 0) (get_elem? s.homes (k + 1)) k (r.station k)) e r.each_caller;
   each_seat = subst (λ l. (j : ℕ) (v : View) → get_elem? s.views j ≡ some v → Knows room r.n r.made r.line l r.station j v) e r.each_seat;
 }

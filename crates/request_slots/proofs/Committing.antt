@@ -25,7 +25,7 @@ use Rattle.request_slots.specs.Lawful.{Knows, Lawful}
 use Rattle.request_slots.specs.Views.{known_of, pass_in, committing}
 use Rattle.request_slots.specs.Events.{Sat, Commits}
 use Rattle.request_slots.proofs.Stations.{Abides, abides_self}
-use Rattle.request_slots.proofs.Holders.{holder_begins, seats_apart}
+use Rattle.request_slots.proofs.Holders.{holder_begins, seats_apart, made_sit_after}
 use Rattle.request_slots.proofs.Carrying.{seats_after}
 use Rattle.request_slots.proofs.Passing.{mine, holds_pass, own_knows, others_stay}
 
@@ -121,6 +121,7 @@ module _ (room : ℕ) (s : State Slot View) (r : Lawful room s) (id : ℕ) (c : 
         };
         holder_sits = holder_begins s.views r.station id (Caller c) (committing c p line' outcomes) p' there knows.seat_is refl;
         sit_apart = seats_apart room r.n r.made line' (held_by c.number p') r.station (set s.views id (Caller (committing c p line' outcomes))) seats;
+        made_sit = made_sit_after s.views r.station r.station r.made id (Caller c) (Caller (committing c p line' outcomes)) there refl (λ _. refl) r.made_sit;
         each_caller = λ k lt. subst (λ (z : ℕ). CallerHolds room line' (part_of (held_by c.number p') k) z (get_elem? s.homes (k + 1)) k (r.station k))
             (sym (get_or-set_other s.words 1 (k + 2) (length line') 0 (λ e. omega arith)))
             (caller_commits room r.line line' (part_of (held_by c.number p) k) (outcome_by k p.taken outcomes) (get_or s.words (k + 2) 0) (get_elem? s.homes (k + 1)) k (r.station k)

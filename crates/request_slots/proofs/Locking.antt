@@ -30,7 +30,7 @@ use Rattle.request_slots.specs.Phases.{PhaseHolds}
 use Rattle.request_slots.specs.Lawful.{IsNotMade, CallerKnows, Knows, Lawful}
 use Rattle.request_slots.specs.Views.{known_of, left_calls, locking, meeting, OwnCallsIn, ShowsLine}
 use Rattle.request_slots.specs.Events.{Sat, Locks}
-use Rattle.request_slots.proofs.Stations.{put, put_here, put_else, put_rises, put_abides, others_know}
+use Rattle.request_slots.proofs.Stations.{put, put_here, put_else, put_seat, put_rises, put_abides, others_know}
 use Rattle.request_slots.proofs.Holders.{pass_elsewhere, pass_there, holder_begins, holder_follows, holder_has_held}
 use Rattle.request_slots.proofs.Carrying.{noted, part_free, lock_step, relocked, handed, view_step}
 use Rattle.request_slots.proofs.RequestLists.{is_in-push}
@@ -62,7 +62,7 @@ module _ (room : ℕ) (s : State Slot View) (r : Lawful room s) (id : ℕ) (c : 
       let lock : Lock = held_by c.number p in
       let free_before = relocked room s r free is_free in
       let rises = put_rises r.station c.number st (λ _. refl) in
-      lock_step room s r (c.number + 1) none (put r.station c.number st) lock id (Caller (locking c d.book.history))
+      lock_step room s r (c.number + 1) none (put r.station c.number st) lock id (Caller c) (Caller (locking c d.book.history)) there refl (put_seat r.station c.number st refl)
       (λ k above. let made = knows.number_made in subst IsNotMade (sym (put_else r.station c.number st k (λ e. omega arith))) (r.not_made k above))
       record {
         word_is = refl;
@@ -173,7 +173,7 @@ locks room slots id k me is number no_pass s r deep at small =
           keeps,
           tt,
           subst (λ b. Lawful room (stepped s 0 (either b (k + 1) x) id me.1 (Caller (meeting c q)) keeps)) (sym (ne_eqb x 0 miss))
-              (view_step room s r 0 id (Caller (meeting c q)) (meet_knows room s r id c (at ∙ ap (λ (v : View). some v) is) q other h.inside (holder_has_held room s r q p e))
+              (view_step room s r 0 id (Caller c) (Caller (meeting c q)) (at ∙ ap (λ (v : View). some v) is) refl (meet_knows room s r id c (at ∙ ap (λ (v : View). some v) is) q other h.inside (holder_has_held room s r q p e))
               (holder_follows s.views r.station r.station r.lock id c (meeting c q) (at ∙ ap (λ (v : View). some v) is) refl (λ _. refl) knows.seat_is knows.pass_is r.holder_sits)),
           ((λ hit. absurd (miss hit)), λ _. (meeting c q, (q, other, (let near = h.inside in let sized : slots ≡ r.n + 1 = sym deep ∙ r.deep in omega arith), refl), refl)),
         )

@@ -5,7 +5,7 @@ use Rattle.std.proofs.Common.{refl, ap, ◌≡◌, ◌⊎◌, ℕ, ◌+◌, ◌�
 use mathlib.Core.Option.{none, some}
 use lib.ListN.{get_elem?}
 use Rattle.atomic_table.specs.Table.{State, step, keeps, Allows, Splits, Joins}
-use Rattle.atomic_table.proofs.Lists.{at_snoc, set_else, set_again}
+use Rattle.atomic_table.proofs.Lists.{at_snoc, at_longer, set_else, set_again}
 use Rattle.cvl_text.specs.declared.call.Call.{Call}
 use Rattle.call_history.specs.declared.entry.Entry.{Entry}
 use Rattle.call_history.specs.declared.request.Outcome.{Outcome}
@@ -23,7 +23,7 @@ use Rattle.request_slots.specs.declared.known.View.{View}
 use Rattle.request_slots.specs.declared.known.View.TheVariants.{Caller, Bare, Spent}
 use Rattle.request_slots.specs.Stages.{Stage, unmade, idle, posted, taken, done, is_left, Station, Home}
 use Rattle.request_slots.specs.Passes.{Part, part_of}
-use Rattle.request_slots.specs.Locks.{HolderSits}
+use Rattle.request_slots.specs.Locks.{HolderSits, caller_of}
 use Rattle.request_slots.specs.Requests.{FateHolds, ServedHolds, StageHolds, CallerHolds}
 use Rattle.request_slots.specs.Phases.{PhaseHolds}
 use Rattle.request_slots.specs.Lawful.{CallerKnows, Knows, Lawful}
@@ -155,7 +155,7 @@ looks room slots id me is s r deep at small =
       Caller (looking c r.line),
       keeps,
       tt,
-      view_step room s r 1 id (Caller (looking c r.line)) after
+      view_step room s r 1 id (Caller c) (Caller (looking c r.line)) there refl after
           (holder_follows s.views r.station r.station r.lock id c (looking c r.line) there refl (λ _. refl) knows.seat_is knows.pass_is r.holder_sits),
       (r.line, r.line_holds.length_is, knows.fronts.seen_begins, refl, rests_of after),
     )
@@ -180,6 +180,8 @@ shows room id v is s r at =
       lock_holds = r.lock_holds;
       holder_sits = holder_more (set s.views id v) bare r.station r.lock (subst (λ vs. HolderSits vs r.station r.lock) (sym (set_again s.views id v at)) r.holder_sits);
       sit_apart = seats_apart room r.n r.made r.line r.lock r.station (set s.views id v ++ bare ∷ []) seats;
+      made_sit = λ k lt. let sit = r.made_sit k lt in
+          (sit.0, at_longer (set s.views id v) (bare ∷ []) (r.station k).seat sit.0 (subst (λ vs. get_elem? vs (r.station k).seat ≡ some sit.0) (sym (set_again s.views id v at)) sit.1), sit.2);
       each_caller = r.each_caller;
       each_seat = seats;
     }
@@ -191,8 +193,8 @@ sees room id other v w is bare s r at apart there =
     let saw : Begins (seen_in w) r.line = subst (Knows room r.n r.made r.line r.lock r.station other) bare (r.each_seat other w (sym (set_else s.views id other both apart) ∙ there)) in
     let s' : State Slot View = record { words = s.words; homes = s.homes; views = set s.views id both } in
     let held = holder_follows s.views r.station r.station r.lock id (known_of v) (informed (known_of v) (seen_in w)) (at ∙ ap (λ (u : View). some u) is) refl (λ _. refl) knows.seat_is knows.pass_is r.holder_sits in
-    let mid = view_change room s r id both (told_knows room s r id (known_of v) (seen_in w) knows saw) held in
-    view_change room s' mid other Spent tt
+    let mid = view_change room s r id (Caller (known_of v)) both (at ∙ ap (λ (u : View). some u) is) refl (told_knows room s r id (known_of v) (seen_in w) knows saw) held in
+    view_change room s' mid other w Spent there (sym (ap caller_of bare)) tt
     (holder_apart s'.views mid.station mid.station mid.lock other w Spent there (λ c e. let t : Bare (seen_in w) ≡ Caller c = sym bare ∙ e in absurd (cc t)) (λ _ _ _. refl) mid.holder_sits)
 
 pub adopts : (room slots id : ℕ) (me : Sat) → me.0 ≡ Caller (known_of me.0) → Allows (Lawful room) slots id me 1 (λ x. x) (Adopts (step slots 1 0 0 none) me)
@@ -204,7 +206,7 @@ adopts room slots id me is s r deep at small =
       Caller (adopting c),
       keeps,
       tt,
-      view_step room s r 1 id (Caller (adopting c)) after
+      view_step room s r 1 id (Caller c) (Caller (adopting c)) (at ∙ ap (λ (v : View). some v) is) refl after
           (holder_follows s.views r.station r.station r.lock id c (adopting c) (at ∙ ap (λ (v : View). some v) is) refl (λ _. refl) knows.seat_is knows.pass_is r.holder_sits),
       (both.0, both.1, refl, rests_of after),
     )

@@ -1,12 +1,13 @@
 -- The table is lawful when it is made, and the steps that make its callers keep the rule.
 -- `opens` is what the table asks of a new table, `makes_from` and `arrives` of the split and the step that make a caller.
 use Rattle.std.specs.Global.{Box}
-use Rattle.std.proofs.Common.{◌≡◌, ◌≢◌, ◌⊎◌, ℕ, zero, suc, ◌+◌, ◌<◌, ◌≤◌, true, false, List, [], ◌∷◌, ◌++◌, length, get_or, set, None, refl, sym, ap, ◌∙◌, subst, ⊎_elim, inl, inr, arith, map, replicate, add-one}
+use Rattle.std.proofs.Common.{◌≡◌, ◌≢◌, ◌⊎◌, ℕ, zero, suc, ◌+◌, ◌<◌, ◌≤◌, true, false, List, [], ◌∷◌, ◌++◌, length, get_or, set, Some, None, refl, sym, ap, ◌∙◌, subst, ⊎_elim, inl, inr, arith, map, replicate, add-one}
 use mathlib.Core.Logic.{dite}
 use mathlib.Core.Option.{some, none, some-injective, some-ne-none}
 use native.Mathlib.Decide.{ℕ_discrete}
 use lib.ListN.{get_elem?, length-replicate, length-map}
 use Rattle.atomic_table.specs.Table.{State, step, takes, Allows, Splits, opening}
+use Rattle.atomic_table.proofs.Lists.{at_last, at_longer}
 use Rattle.call_history.specs.declared.entry.Entry.{Entry}
 use Rattle.call_history.proofs.Beginnings.{begins_empty, begins_self}
 use Rattle.request_slots.specs.declared.desk.Slot.{Slot}
@@ -17,12 +18,13 @@ use Rattle.request_slots.specs.declared.known.View.{View}
 use Rattle.request_slots.specs.declared.known.View.TheVariants.{Maker, Newcomer, Caller, Bare, Spent}
 use Rattle.request_slots.specs.Stages.{Stage, unmade, idle, posted, taken, done, Station, Home}
 use Rattle.request_slots.specs.Passes.{Lock, free, held_by, pass_of, Part, part_of}
+use Rattle.request_slots.specs.Locks.{MadeSit}
 use Rattle.request_slots.specs.Requests.{StageHolds, request_at, CallerHolds}
 use Rattle.request_slots.specs.Lawful.{IsNotMade, NewcomerKnows, CallerKnows, Knows, Lawful}
 use Rattle.request_slots.specs.Views.{newcomer, next_maker, next_caller, IsSpare}
 use Rattle.request_slots.specs.Events.{Sat, Arrives}
 use Rattle.request_slots.proofs.Stations.{put, put_here, put_else, put_rises, put_abides, put_seat, caller_abides, others_know}
-use Rattle.request_slots.proofs.Holders.{pass_elsewhere, holder_apart, holder_more, holder_has_held, seats_apart}
+use Rattle.request_slots.proofs.Holders.{pass_elsewhere, holder_apart, holder_more, holder_has_held, seats_apart, made_sit_after}
 use Rattle.request_slots.proofs.Carrying.{seats_after, caller_step}
 
 all_same : (n i x : ℕ) → get_or (replicate n x) i x ≡ x
@@ -72,6 +74,7 @@ opens room n words slots d words_are slots_are room_is no_entries spare =
       };
       holder_sits = tt;
       sit_apart = seats_apart room n 0 [] free (λ _. blank) (Maker room 0 ∷ []) (first_knows room n);
+      made_sit = λ k lt. absurd (omega arith);
       each_caller = λ k lt. record {
         word_is = word (k + 2);
         request_is = refl;
@@ -131,6 +134,26 @@ others_make room s r id k seat at j other (Caller c) h =
 others_make room s r id k seat at j other (Bare seen) h = h
 others_make room s r id k seat at j other Spent h = tt
 
+-- and each caller that was made has its view, also the next one
+made_sit_makes : (room : ℕ) (s : State Slot View) (r : Lawful room s) (id k : ℕ) → get_elem? s.views id ≡ some (Maker room k)
+    → let before : List View = set s.views id (Maker room (k + 1)) in MadeSit (before ++ Newcomer room k ∷ []) (put r.station k (seated (r.station k) (length before))) (k + 1)
+made_sit_makes room s r id k at i lt =
+    let before : List View = set s.views id (Maker room (k + 1)) in
+    let st : Station = seated (r.station k) (length before) in
+    let all : List View = before ++ Newcomer room k ∷ [] in
+    let made = (r.each_seat id (Maker room k) at).1 in
+    dite (ℕ_discrete i k)
+    (λ same. (
+      Newcomer room k,
+      ap (λ (z : ℕ). get_elem? all (put r.station k st z).seat) same ∙ (ap (λ (z : Station). get_elem? all z.seat) (put_here r.station k st) ∙ at_last before (Newcomer room k) (length before) refl),
+      ap (λ (z : ℕ). Some z) (sym same),
+    ))
+    (λ other. let old = made_sit_after s.views r.station r.station r.made id (Maker room k) (Maker room (k + 1)) at refl (λ _. refl) r.made_sit i (omega arith) in (
+      old.0,
+      ap (λ (z : Station). get_elem? all z.seat) (put_else r.station k st i other) ∙ at_longer before (Newcomer room k ∷ []) (r.station i).seat old.0 old.1,
+      old.2,
+    ))
+
 -- the maker gives the next caller a seat
 makes : (room id k : ℕ) → Splits (Lawful room) id (Maker room k) (Maker room (k + 1)) (Newcomer room k)
 makes room id k s r at =
@@ -161,6 +184,7 @@ makes room id k s r at =
           (holder_apart s.views r.station (put r.station k st) r.lock id (Maker room k) (Maker room (k + 1)) at (λ c e. absurd (cc e))
           (λ h p is. ap (λ (z : Station). z.seat) (put_else r.station k st h (unmade_apart room s r h k p is fresh.not_held))) r.holder_sits);
       sit_apart = seats_apart room r.n (k + 1) r.line r.lock (put r.station k st) (before ++ Newcomer room k ∷ []) seats;
+      made_sit = made_sit_makes room s r id k at;
       each_caller = λ i lt. dite (ℕ_discrete i k)
           (λ same. subst (λ (z : ℕ). CallerHolds room r.line (part_of r.lock z) (get_or s.words (z + 2) 0) (get_elem? s.homes (z + 1)) z (put r.station k st z)) (sym same)
           (subst (λ (z : Station). CallerHolds room r.line (part_of r.lock k) (get_or s.words (k + 2) 0) (get_elem? s.homes (k + 1)) k z) (sym (put_here r.station k st))
@@ -198,7 +222,7 @@ arrives key slots id room k me is near = subst (λ (m : Sat). Allows (Lawful key
           Caller (newcomer room k),
           takes (k + 1) Nothing,
           stage.home_is,
-          caller_step key s r k 1 none st r.lock id (Caller (newcomer room k)) inside know.number_made (λ i other. refl)
+          caller_step key s r k 1 none st r.lock id (Newcomer room k) (Caller (newcomer room k)) inside know.number_made at refl refl (λ i other. refl)
               record { word_is = refl; request_is = caller.request_is ∙ ap (λ (z : Stage). request_at z there.calls) know.stage_is; stage_holds = record { home_is = refl; own_is = stage.no_calls ∙ sym stage.own_is } }
               r.lock_holds
               (subst (λ (z : Station). CallerKnows key r.n r.made r.line (pass_of r.lock k) z (λ m. (put r.station k st m).held) id (newcomer room k)) (sym (put_here r.station k st)) record {

@@ -77,7 +77,7 @@ module _ (room : ℕ) (s : State Slot View) (r : Lawful room s) (id : ℕ) (c : 
       → Lawful room (moved s i x y id (Caller (passing c p')))
   serve_step i x y st p' near made here parts caller pass tried =
       let abide = put_all_abide r.station i st here in
-      caller_step room s mine i x y st (held_by c.number p') id (Caller (passing c p')) near made parts caller
+      caller_step room s mine i x y st (held_by c.number p') id (Caller c) (Caller (passing c p')) near made there refl here.seat parts caller
       record { word_is = mine.lock_holds.word_is; inside = mine.lock_holds.inside; home_is = mine.lock_holds.home_is; pass = pass }
       (own_knows r.line p' (put r.station i st) c.passes (begins_self r.line) abide tried)
       (subst (λ l. (j : ℕ) → j ≢ id → (v : View) → Knows room r.n r.made r.line l r.station j v → Knows room r.n r.made r.line (held_by c.number p') (put r.station i st) j v) locked

@@ -28,7 +28,7 @@ use Rattle.request_slots.specs.Locks.{HolderSits}
 use Rattle.atomic_table.proofs.Lists.{set_again}
 use Rattle.request_slots.specs.Events.{Sat, Takes, Skips}
 use Rattle.request_slots.proofs.Stations.{Abides, abides_self, put, put_here, put_else}
-use Rattle.request_slots.proofs.Holders.{holder_begins, seats_apart}
+use Rattle.request_slots.proofs.Holders.{holder_begins, seats_apart, made_sit_after}
 use Rattle.request_slots.proofs.Carrying.{seats_after, seen_by, made_by_stage, moved, view_step}
 use Rattle.request_slots.proofs.RequestLists.{is_in-push}
 use Rattle.request_slots.proofs.Passing.{staged, mine, holds_pass, own_knows, others_stay, serve_step, open_before}
@@ -129,6 +129,7 @@ module _ (room : ℕ) (s : State Slot View) (r : Lawful room s) (id : ℕ) (c : 
         };
         holder_sits = holder_begins s.views r.station id (Caller c) (passing c p') p' there knows.seat_is refl;
         sit_apart = seats_apart room r.n r.made r.line (held_by c.number p') r.station (set s.views id (Caller (passing c p'))) seats;
+        made_sit = made_sit_after s.views r.station r.station r.made id (Caller c) (Caller (passing c p')) there refl (λ _. refl) r.made_sit;
         each_caller = rule.each_caller;
         each_seat = seats;
       }
@@ -173,7 +174,7 @@ skips_request room slots id i me is has near untried s r deep at small =
       me.0,
       keeps,
       tt,
-      view_step room s r (i + 2) id me.0 (r.each_seat id me.0 at) (subst (λ vs. HolderSits vs r.station r.lock) (sym (set_again s.views id me.0 at)) r.holder_sits),
+      view_step room s r (i + 2) id me.0 me.0 at refl (r.each_seat id me.0 at) (subst (λ vs. HolderSits vs r.station r.lock) (sym (set_again s.views id me.0 at)) r.holder_sits),
       λ j e. ((λ _. refl), λ miss. absurd (miss hit)),
     ))
     (λ miss. (

@@ -98,7 +98,7 @@ module _ (room : ℕ) (s : State Slot View) (r : Lawful room s) (id : ℕ) (c : 
       let r' = relocked room s r (held_by c.number p) locked in
       let line_is : p.line ≡ r.line = r'.lock_holds.pass.line_is in
       let nothing : (k : ℕ) → request_by k p.taken ≡ None = λ k. ap (request_by k) all_told in
-      lock_step room s r 0 (some (Kept d)) r.station free id (Caller (unlocking c p)) r.not_made
+      lock_step room s r 0 (some (Kept d)) r.station free id (Caller c) (Caller (unlocking c p)) there refl (λ _. refl) r.not_made
       record { word_is = refl; desk = d; home_is = refl; rests = subst (λ l. DeskRests room r.n l d.value) line_is rests }
       (λ k lt. part_free room r.line (part_of (held_by c.number p) k) (part_of free k) (get_or s.words (k + 2) 0) (get_elem? s.homes (k + 1)) k (r.station k) (r.station k).held (nothing k) refl (r'.each_caller k lt))
       (unlock_knows p has all_told)

@@ -15,7 +15,7 @@ use Rattle.request_slots.specs.declared.known.View.TheVariants.{Maker, Newcomer,
 use Rattle.request_slots.specs.Stages.{unmade, Station}
 use Rattle.request_slots.specs.Passes.{Lock, pass_of, part_of}
 use Rattle.request_slots.specs.Fronts.{FrontsBegin, LineHolds}
-use Rattle.request_slots.specs.Locks.{LockHolds, HolderSits, SitApart}
+use Rattle.request_slots.specs.Locks.{LockHolds, HolderSits, SitApart, MadeSit}
 use Rattle.request_slots.specs.Requests.{CallerHolds}
 use Rattle.request_slots.specs.Phases.{PhaseHolds, SettledHolds}
 use Rattle.request_slots.specs.Notes.{NotesHold}
@@ -75,11 +75,13 @@ pub record Lawful (room : ℕ) (s : State Slot View) : Type 0 where
   pub not_made : (k : ℕ) → made ≤ k → IsNotMade (station k)
   -- 2. The length word is the length of the line, whose entries are of callers of the table (Fronts).
   pub line_holds : LineHolds n (slice_index s.words 1) line
-  -- 3. The lock word names exactly the seat that has the desk, and no caller has two seats (Locks).
+  -- 3. The lock word names exactly the seat that has the desk, and each caller that was made has one seat (Locks).
   pub lock_holds : LockHolds room n line (slice_index s.words 0) (get_elem? s.homes 0) lock
   pub holder_sits : HolderSits s.views station lock
   pub sit_apart : SitApart s.views
-  -- 4. In each caller's slot lies what its word says (Requests).
+  pub made_sit : MadeSit s.views station made
+  -- 4. In each caller's slot lies what its word says (Requests). Of a slot that is out, the desk's too, the rule says no more: whose
+  -- hand it is in, in which order, and that it is empty there stands at the seat (`IsSeated` of Seating), which keeps it by itself.
   pub each_caller : (k : ℕ) → k < n
       → CallerHolds room line (part_of lock k) (slice_index s.words (k + 2)) (get_elem? s.homes (k + 1)) k (station k)
   -- 1, 3, 5, 6, 7. Each seat knows only what is so.

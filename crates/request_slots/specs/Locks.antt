@@ -1,5 +1,6 @@
 -- The third clause of the rule: the lock word names exactly the seat that has the desk.
--- `LockHolds` says what word and slot of the desk are, `HolderSits` and `SitApart` that one seat alone is the holder's.
+-- `LockHolds` says what word and slot of the desk are, `HolderSits`, `SitApart` and `MadeSit` that one seat alone is the holder's, and
+-- that each caller has one.
 use Rattle.std.specs.Global.{Box}
 use Rattle.std.specs.Prelude.{◌≡◌, ℕ, ◌+◌, ◌<◌, ◌≤◌, true, false, List, [], Option, Some, None, vec_capacity}
 use mathlib.Core.Option.{some}
@@ -69,3 +70,7 @@ caller_of Spent = None
 abbrev pub SitApart : List View → Type 0
 SitApart views = (i j k : ℕ) (v w : View) → get_elem? views i ≡ some v → get_elem? views j ≡ some w
     → caller_of v ≡ Some k → caller_of w ≡ Some k → i ≡ j
+
+-- each caller that was made has a view, which stands where its station says
+abbrev pub MadeSit : List View → (ℕ → Station) → ℕ → Type 0
+MadeSit views station made = (k : ℕ) → k < made → (v : View) × (get_elem? views (station k).seat ≡ some v) × (caller_of v ≡ Some k)
