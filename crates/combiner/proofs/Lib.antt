@@ -2,3 +2,4 @@ mod Seats
 mod Turns
 mod Batches
 mod PassSteps
+pub mod Alone

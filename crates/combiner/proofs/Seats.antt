@@ -12,7 +12,7 @@ new_each m room zero few = λ k d lt. absurd (omega arith)
 new_each m room (suc n) few = All-append IsNewSeat (seats_of m room n) (seated_at m room n ∷ []) (new_each m room n (omega arith)) last
   where
     last : All IsNewSeat (seated_at m room n ∷ [])
-    last zero d lt = record { idle = refl; resting = record { no_desk = refl; one_call = tt; inside = omega arith; rests = λ _. (refl, refl) } }
+    last zero d lt = record { idle = refl; resting = record { no_desk = refl; one_call = tt; inside = omega arith; rests = λ _. (refl, refl); no_strangers = λ _ _. refl } }
     last (suc k) d lt = absurd (omega arith)
 
 pub new_seats : (m : Machine) (room n : ℕ) (seats : List Seated) → n + 1 ≤ m.slots → seats ≡ seats_of m room n → All IsNewSeat seats

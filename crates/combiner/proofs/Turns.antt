@@ -1,10 +1,11 @@
 -- What a caller knows after a call.
 -- `collected_says` is an outcome as `poll` tells it; `waiting_begins`, `waiting_combines`, `waiting_answered`
 -- and `waiting_given_back` are the turns of `wait`.
-use Rattle.std.proofs.Common.{◌≡◌, ℕ, Bool, true, false, not, List, [], ◌∷◌, ◌++◌, refl, sym, ap, ◌∙◌, subst}
+use Rattle.std.proofs.Common.{◌≡◌, ℕ, Bool, true, false, not, List, [], ◌∷◌, ◌++◌, append-nil, append_assoc, refl, sym, ap, ◌∙◌, subst}
 use Rattle.cvl_text.specs.declared.call.Call.{Call}
 use Rattle.cvl_text.specs.declared.reply.Reply.{Reply}
 use Rattle.cvl_text.specs.Answers.{answer_of}
+use Rattle.call_history.specs.declared.entry.Entry.{Entry}
 use Rattle.call_history.specs.declared.request.Outcome.{Outcome}
 use Rattle.call_history.specs.declared.request.Outcome.TheVariants.{Answered, Refused}
 use Rattle.call_history.specs.History.{Begins}
@@ -22,7 +23,7 @@ use Rattle.combiner.specs.declared.answers.Combined.{Combined}
 use Rattle.combiner.specs.declared.answers.Combined.TheVariants as combine
 use Rattle.combiner.specs.Standing.{Standing, standing, IsIdle, HasLeft, IsOneCall}
 use Rattle.combiner.specs.Cases.{IfAnswered, IfBack, OnBusy, OnServed, IfServed}
-use Rattle.combiner.specs.Says.{leaving, serving, IsAnswered, IsAnsweredAtLast, IsWhatWasLeft, IsGivenBack, MeetsAnother}
+use Rattle.combiner.specs.Says.{leaving, meeting, serving, KeepsNotes, Grows, IsAnswered, IsAnsweredAtLast, IsWhatWasLeft, IsGivenBack, MeetsAnother}
 
 pub not_idle : (left idle : Bool) → idle ≡ not left → idle ≡ false → left ≡ true
 not_idle true idle is e = refl
@@ -71,6 +72,21 @@ pub collected_says : (s s' : Seated) (o : Outcome) → IsOneCall s.known.phase �
 collected_says s s' (Answered place reply) one left told at = (collected_answers s s' place reply one left told at, tt)
 collected_says s s' (Refused call) one left told at = (tt, collected_gives_back s s' call one left told at)
 
+grows_on : (a b c : List ℕ) → Grows a b → Grows b c → Grows a c
+grows_on a b c p q = (p.0 ++ q.0, q.1 ∙ (ap (λ l. l ++ q.0) p.1 ∙ append_assoc a p.0 q.0))
+
+pub notes_kept : (c d : Standing) → d.held ≡ c.held → d.met ≡ c.met → d.passes ≡ c.passes → KeepsNotes c d
+notes_kept c d held met passes = (λ had. held ∙ had, ([], met ∙ sym (append-nil c.met)), ([], passes ∙ sym (append-nil c.passes)))
+
+pub notes_follow : (c d e : Standing) → KeepsNotes c d → KeepsNotes d e → KeepsNotes c e
+notes_follow c d e p q = (λ had. q.0 (p.0 had), grows_on c.met d.met e.met p.1 q.1, grows_on c.passes d.passes e.passes p.2 q.2)
+
+notes_met : (c : Standing) (h : ℕ) → KeepsNotes c (meeting c h)
+notes_met c h = (λ had. had, (h ∷ [], refl), ([], sym (append-nil c.passes)))
+
+notes_served : (c d : Standing) (line : List Entry) (calls : ℕ) → d ≡ serving c line calls → KeepsNotes c d
+notes_served c d line calls is = subst (KeepsNotes c) (sym is) (λ _. refl, ([], sym (append-nil c.met)), (calls ∷ [], refl))
+
 -- a caller that waits for what it left, since it stood at c
 pub record IsWaiting (c d : Standing) : Type 0 where
   pub number : d.number ≡ c.number
@@ -78,19 +94,21 @@ pub record IsWaiting (c d : Standing) : Type 0 where
   pub phase : d.phase ≡ c.phase
   pub own : d.own ≡ c.own
   pub later : Begins c.seen d.seen
+  pub notes : KeepsNotes c d
 
 pub waiting_begins : (c : Standing) → IsWaiting c c
-waiting_begins c = record { number = refl; room = refl; phase = refl; own = refl; later = begins_self c.seen }
+waiting_begins c = record { number = refl; room = refl; phase = refl; own = refl; later = begins_self c.seen; notes = notes_kept c c refl refl refl }
 
 pub waiting_combines : (c d d' : Standing) (says : Combined) → IsWaiting c d → OnBusy says (MeetsAnother d d') → IfServed says (λ calls waves kernels. d' ≡ serving d d'.seen calls) → OnServed says (Begins d.seen d'.seen)
     → IsWaiting c d'
-waiting_combines c d d' combine.Busy w busy served later = subst (IsWaiting c) (sym busy.2) record { number = w.number; room = w.room; phase = w.phase; own = w.own; later = w.later }
+waiting_combines c d d' combine.Busy w busy served later = subst (IsWaiting c) (sym busy.2) record { number = w.number; room = w.room; phase = w.phase; own = w.own; later = w.later; notes = notes_follow c d (meeting d busy.0) w.notes (notes_met d busy.0) }
 waiting_combines c d d' (combine.Served calls waves kernels) w busy served later = record {
   number = ap (λ (z : Standing). z.number) served ∙ w.number;
   room = ap (λ (z : Standing). z.room) served ∙ w.room;
   phase = ap (λ (z : Standing). z.phase) served ∙ w.phase;
   own = ap (λ (z : Standing). z.own) served ∙ w.own;
   later = begins_trans c.seen d.seen d'.seen w.later later;
+  notes = notes_follow c d d' w.notes (notes_served d d' d'.seen calls served);
 }
 
 pub waiting_waits : (c d d' : Standing) → IsWaiting c d → d' ≡ d → IsWaiting c d'
@@ -105,6 +123,7 @@ pub record IsEnded (c d : Standing) : Type 0 where
   pub room : d.room ≡ c.room
   pub idle : IsIdle d
   pub later : Begins c.seen d.seen
+  pub notes : KeepsNotes c d
 
 pub waiting_answered : (c d d' : Standing) (place : ℕ) (reply : Reply) → IsWaiting c d → IsAnswered d d' place reply → IsEnded c d' × IsAnsweredAtLast c d' place reply
 waiting_answered c d d' place reply w a = (
@@ -113,6 +132,7 @@ waiting_answered c d d' place reply w a = (
     room = ap (λ (z : Standing). z.room) a.after ∙ w.room;
     idle = ap (λ (z : Standing). z.phase) a.after;
     later = begins_trans c.seen d.seen d'.seen w.later a.later;
+    notes = notes_follow c d d' w.notes (notes_kept d d' (ap (λ (z : Standing). z.held) a.after) (ap (λ (z : Standing). z.met) a.after) (ap (λ (z : Standing). z.passes) a.after));
   },
   record {
     call = a.call;
@@ -133,6 +153,7 @@ waiting_given_back back c d d' w t = (
     room = ap (λ (z : Standing). z.room) t.2 ∙ w.room;
     idle = ap (λ (z : Standing). z.phase) t.2;
     later = subst (Begins c.seen) (sym (ap (λ (z : Standing). z.seen) t.2)) w.later;
+    notes = notes_follow c d d' w.notes (notes_kept d d' (ap (λ (z : Standing). z.held) t.2) (ap (λ (z : Standing). z.met) t.2) (ap (λ (z : Standing). z.passes) t.2));
   },
   (t.0, sym w.phase ∙ t.1),
   ap (λ (z : Standing). z.own) t.2 ∙ w.own,

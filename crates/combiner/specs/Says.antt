@@ -81,6 +81,14 @@ pub record IsAnsweredTo (call : Call) (c d : Standing) (place : ℕ) (reply : Re
   pub whole : Begins history d.seen
   pub record_is : d.own ≡ c.own ++ call ∷ []
 
+-- a list that stays, and may get longer
+abbrev pub Grows : List ℕ → List ℕ → Type 0
+Grows old new = (more : List ℕ) × (new ≡ old ++ more)
+
+-- what was noted stays noted
+abbrev pub KeepsNotes : Standing → Standing → Type 0
+KeepsNotes c d = (c.held ≡ true → d.held ≡ true) × Grows c.met d.met × Grows c.passes d.passes
+
 -- this is another caller of the machine
 abbrev pub IsAnother : Standing → ℕ → Type 0
 IsAnother c h = (h ≢ c.number) × (h < callers_of c.machine)

@@ -1,16 +1,14 @@
 -- What contracts know of a caller between two calls, and the words for it.
 -- `Standing` is the whole of it; `IsIdle`, `HasLeft` and `Rests` speak of its phase; `newcomers` are the callers of a new machine.
-use Rattle.std.specs.Prelude.{◌≡◌, ℕ, zero, suc, ◌+◌, ◌-◌, ◌<◌, Bool, false, List, [], ◌∷◌, ◌++◌, None}
+use Rattle.std.specs.Prelude.{◌≡◌, ℕ, zero, suc, ◌+◌, ◌<◌, Bool, false, List, [], ◌∷◌, ◌++◌, None}
 use Rattle.cvl_text.specs.declared.call.Call.{Call}
 use Rattle.call_history.specs.declared.entry.Entry.{Entry}
 use Rattle.call_history.specs.Callers.{calls_by}
 use Rattle.request_slots.specs.declared.known.Phase.{Phase}
 use Rattle.request_slots.specs.declared.known.Phase.TheVariants.{Idle, Left}
-use Rattle.request_slots.specs.Seating.{Machine, Seated}
-
--- how many callers a machine has
-abbrev pub callers_of : Machine → ℕ
-callers_of m = m.slots - 1
+use Rattle.request_slots.specs.Fronts.{IsOfCallers}
+use Rattle.request_slots.specs.Seating.{Seated}
+pub use Rattle.request_slots.specs.Seating.{Machine, callers_of}
 
 pub record Standing : Type 0 where
   -- the machine that it calls
@@ -104,6 +102,7 @@ pub record IsResting (s : Seated) : Type 0 where
   pub one_call : IsOneCall s.known.phase
   pub inside : s.known.number + 1 < s.table_id.slots
   pub rests : Rests (standing s)
+  pub no_strangers : IsOfCallers (callers_of s.table_id) s.known.seen
 
 -- a seat that nobody has used
 pub record IsNewSeat (s : Seated) : Type 0 where

@@ -1,4 +1,5 @@
 ghost use Rattle.std.specs.Prelude.{◌≡◌, ◌↔◌, ◌<◌, IsTrue, All, map, IfOk};
+ghost use Rattle.request_slots.specs.Fronts.{IsOfCallers};
 ghost use Rattle.combiner.specs.Standing.{Standing, standing, IsIdle, IsResting, IsNewSeat, Rests, callers_of};
 
 use request_slots::Seat;
@@ -21,10 +22,11 @@ impl Model for Caller {
 }
 
 impl Caller {
-    /// The number of the caller, from 0.
+    /// The number of the caller, from 0. What it has seen has no calls but of callers of its machine.
     pub fn number(&self) -> usize
         ensures number { result ≡ self.now.number }
         ensures inside { self.now.number < callers_of self.now.machine }
+        ensures no_strangers { IsOfCallers (callers_of self.now.machine) self.now.seen }
     {
         self.seat.number()
     }

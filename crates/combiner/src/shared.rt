@@ -1,9 +1,8 @@
-ghost use Rattle.std.specs.Prelude.{◌≡◌, ℕ, ◌<◌, ◌≤◌, [], IfOk, IfErr, OnOk, OnErr, All};
+ghost use Rattle.std.specs.Prelude.{◌≡◌, ◌<◌, length, IfOk, IfErr, OnOk, OnErr, All};
 ghost use Rattle.vector_memory.specs.States.{IsLawfulRoom};
 ghost use Rattle.call_history.specs.History.{Begins};
-ghost use Rattle.call_history.specs.Callers.{calls_by};
-ghost use Rattle.request_slots.specs.Seating.{Machine};
-ghost use Rattle.combiner.specs.Standing.{callers_of, newcomers, IsNewAt};
+ghost use Rattle.request_slots.specs.Fronts.{IsOfCallers};
+ghost use Rattle.combiner.specs.Standing.{Machine, callers_of, newcomers, IsIdle, IsNewAt};
 ghost use Rattle.combiner.specs.Making.{IsLawfulCount, IsMadeImpossible, IsSized};
 ghost use Rattle.combiner.specs.Says.{FindsAnother, HasOwnCalls};
 
@@ -32,8 +31,8 @@ impl Model for Shared {
 }
 
 impl Shared {
-    /// A machine whose history is empty and whose memory has room for up to `room` items together, and its callers in the
-    /// order of their numbers.
+    /// A machine whose memory has room for up to `room` items together, and its callers in the order of their numbers. The
+    /// history is empty, so what each caller has seen, nothing, is all of it.
     pub fn new(alloc: Global, callers: u64, room: u64) -> Result<(Shared, Vec<Caller>), MakeFault>
         ensures lawful { OnOk result (IsLawfulCount callers × IsLawfulRoom room) }
         ensures fault { IfErr result (IsMadeImpossible callers room) }
@@ -54,13 +53,15 @@ impl Shared {
     }
 
     /// The book, unless another caller has it, which cannot be with one caller. Its history begins with what the closer has
-    /// seen, and has the closer's answered calls, and the call that it left if that was served.
+    /// seen, and has the closer's answered calls, and the call that it left if that was served. With one caller, which is idle,
+    /// it has its answered calls and no others.
     pub fn close(self, caller: Caller) -> Result<Book, Unfinished>
         requires { caller.machine ≡ self }
         ensures room { IfOk result (λ book. book.room ≡ caller.room) }
         ensures begins { IfOk result (λ book. Begins caller.seen book.history) }
         ensures own { IfOk result (λ book. HasOwnCalls caller book.history) }
-        ensures no_strangers { IfOk result (λ book. (k : ℕ) → callers_of self ≤ k → calls_by k book.history ≡ []) }
+        ensures no_strangers { IfOk result (λ book. IsOfCallers (callers_of self) book.history) }
+        ensures alone { IfOk result (λ book. callers_of self ≡ 1 → IsIdle caller → length book.history ≡ length caller.own) }
         ensures found { OnErr result (FindsAnother caller) }
         ensures not_alone { OnErr result (1 < callers_of self) }
     {

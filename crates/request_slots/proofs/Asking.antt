@@ -32,7 +32,7 @@ use Rattle.request_slots.specs.Events.{Sat, calls_in_hand, Posts, Collects}
 use Rattle.request_slots.proofs.Stations.{put, put_here, put_rises, put_abides, put_seat, notes_rise, others_know}
 use Rattle.request_slots.proofs.Holders.{holder_follows}
 use Rattle.request_slots.proofs.Carrying.{caller_step, view_step, moved}
-use Rattle.request_slots.proofs.Looking.{longer_begins, not_true}
+use Rattle.request_slots.proofs.Looking.{longer_begins, not_true, begins_of_callers}
 
 code_done : (stage : Stage) → code stage ≡ 4 → stage ≡ done
 code_done unmade e = absurd (omega arith)
@@ -182,7 +182,7 @@ collects_at room slots id me is left s r deep at small =
       told.home_is,
       subst (λ b. Lawful room (stepped s i (either b 1 x) id me.1 (Caller (collected room s r id c there new.0 new.1)) (takes (c.number + 1) (Told told.outcome)))) (sym (eq-eqb x 4 hit))
           (collect_keeps room s r id c there new.0 new.1 at_end new.2 new.3 new.4),
-      ((λ _. (told.outcome, collected room s r id c there new.0 new.1, refl, refl, new.5, λ _. (new.3, refl))), λ miss. absurd (miss hit)),
+      ((λ _. (told.outcome, collected room s r id c there new.0 new.1, refl, refl, new.5, ((λ _. (new.3, refl)), begins_of_callers slots r.n new.0 r.line (sym deep ∙ r.deep) new.2 r.line_holds.no_strangers))), λ miss. absurd (miss hit)),
     ))
     (λ miss. (
       me.0,

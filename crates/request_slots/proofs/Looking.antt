@@ -1,7 +1,7 @@
 -- A caller that looks, or meets another, keeps the rule.
--- `phase_of_line` carries a phase from what was seen to the line, `rests_of` shows that an idle caller rests. `looks` and `adopts` are
+-- `phase_of_line` carries a phase from what was seen to the line, `front_of` shows that what was seen is so. `looks` and `adopts` are
 -- what the table asks of the two loads, `shows` and `sees` of the split and the join between two callers.
-use Rattle.std.proofs.Common.{refl, ap, ◌≡◌, ◌⊎◌, ℕ, ◌+◌, ◌≤◌, Bool, true, false, List, [], ◌∷◌, ◌++◌, length, get_or, set, nat_lt, if◌then◌else◌, Option, sym, ◌∙◌, subst, ⊎_elim, inl, inr, arith}
+use Rattle.std.proofs.Common.{refl, ap, ◌≡◌, ◌⊎◌, ℕ, ◌+◌, ◌-◌, ◌≤◌, Bool, true, false, List, [], ◌∷◌, ◌++◌, length, get_or, set, nat_lt, if◌then◌else◌, Option, sym, ◌∙◌, subst, ⊎_elim, inl, inr, arith}
 use mathlib.Core.Option.{none, some}
 use lib.ListN.{get_elem?}
 use Rattle.atomic_table.specs.Table.{State, step, keeps, Allows, Splits, Joins}
@@ -12,7 +12,7 @@ use Rattle.call_history.specs.declared.request.Outcome.{Outcome}
 use Rattle.call_history.specs.History.{Begins}
 use Rattle.call_history.specs.Callers.{calls_by}
 use Rattle.call_history.specs.Fits.{Fate, StandsAt, CameBack, fate_of}
-use Rattle.call_history.proofs.Beginnings.{begins_self, begins_trans, begins_shorter}
+use Rattle.call_history.proofs.Beginnings.{begins_self, begins_empty, begins_trans, begins_shorter}
 use Rattle.call_history.proofs.CallerLemmas.{calls_stay, calls_between, calls_split}
 use Rattle.request_slots.specs.declared.desk.Slot.{Slot}
 use Rattle.request_slots.specs.declared.known.Pass.{Pass}
@@ -25,9 +25,10 @@ use Rattle.request_slots.specs.Stages.{Stage, unmade, idle, posted, taken, done,
 use Rattle.request_slots.specs.Passes.{Part, part_of}
 use Rattle.request_slots.specs.Locks.{HolderSits, caller_of}
 use Rattle.request_slots.specs.Requests.{FateHolds, ServedHolds, StageHolds, CallerHolds}
+use Rattle.request_slots.specs.Fronts.{IsOfCallers}
 use Rattle.request_slots.specs.Phases.{PhaseHolds}
 use Rattle.request_slots.specs.Lawful.{CallerKnows, Knows, Lawful}
-use Rattle.request_slots.specs.Views.{known_of, seen_in, looking, informed, adopting, longer, Rests}
+use Rattle.request_slots.specs.Views.{known_of, seen_in, looking, informed, adopting, longer, Rests, FrontHolds}
 use Rattle.request_slots.specs.Events.{Sat, Looks, Adopts}
 use Rattle.request_slots.proofs.Holders.{holder_follows, holder_apart, holder_more, seats_apart}
 use Rattle.request_slots.proofs.Carrying.{seats_after, view_change, view_step}
@@ -110,10 +111,19 @@ phase_between k xs ys zs own s (Left calls start) p q low high = record {
     go (inr a) (inr b) = inr (calls_between k xs ys zs (own ++ calls) p q a b)
 
 -- an idle caller has its record in what it has seen, and is not settled
-pub rests_of : {room n made : ℕ} {line : List Entry} {pass : Option Pass} {mine : Station} {has_held : ℕ → Bool} {seat : ℕ} {c : Known} → CallerKnows room n made line pass mine has_held seat c → Rests c
+rests_of : {room n made : ℕ} {line : List Entry} {pass : Option Pass} {mine : Station} {has_held : ℕ → Bool} {seat : ℕ} {c : Known} → CallerKnows room n made line pass mine has_held seat c → Rests c
 rests_of {mine} {c} knows at_rest =
     let phase = subst (PhaseHolds c.number c.seen c.own mine) at_rest knows.phase in
     (phase.own_is, not_true c.settled (λ e. cc (knows.settled.done e, phase.stage_is)))
+
+-- what begins a history of callers of the table is of these callers too
+pub begins_of_callers : (slots n : ℕ) (seen line : List Entry) → slots ≡ n + 1 → Begins seen line → IsOfCallers n line → IsOfCallers (slots - 1) seen
+begins_of_callers slots n seen line sized saw all k far = calls_between k [] seen line [] (begins_empty seen) saw refl (all k (omega arith))
+
+-- what a caller knows by the rule holds of what it has seen
+pub front_of : (slots : ℕ) {room n made : ℕ} {line : List Entry} {pass : Option Pass} {mine : Station} {has_held : ℕ → Bool} {seat : ℕ} {c : Known} → slots ≡ n + 1 → IsOfCallers n line
+    → CallerKnows room n made line pass mine has_held seat c → FrontHolds slots c
+front_of slots {n} {line} {c} sized all knows = (rests_of knows, begins_of_callers slots n c.seen line sized knows.fronts.seen_begins all)
 
 -- a caller that sees more of the line
 sees_more : (room : ℕ) (s : State Slot View) (r : Lawful room s) (id : ℕ) (c : Known) (seen : List Entry) → Knows room r.n r.made r.line r.lock r.station id (Caller c) → Begins seen r.line → Begins c.seen seen
@@ -157,7 +167,7 @@ looks room slots id me is s r deep at small =
       tt,
       view_step room s r 1 id (Caller c) (Caller (looking c r.line)) there refl after
           (holder_follows s.views r.station r.station r.lock id c (looking c r.line) there refl (λ _. refl) knows.seat_is knows.pass_is r.holder_sits),
-      (r.line, r.line_holds.length_is, knows.fronts.seen_begins, refl, rests_of after),
+      (r.line, r.line_holds.length_is, knows.fronts.seen_begins, refl, front_of slots (sym deep ∙ r.deep) r.line_holds.no_strangers after),
     )
 
 pub shows : (room id : ℕ) (v : View) → v ≡ Caller (known_of v) → Splits (Lawful room) id v v (Bare (known_of v).seen)
@@ -208,5 +218,5 @@ adopts room slots id me is s r deep at small =
       tt,
       view_step room s r 1 id (Caller c) (Caller (adopting c)) (at ∙ ap (λ (v : View). some v) is) refl after
           (holder_follows s.views r.station r.station r.lock id c (adopting c) (at ∙ ap (λ (v : View). some v) is) refl (λ _. refl) knows.seat_is knows.pass_is r.holder_sits),
-      (both.0, both.1, refl, rests_of after),
+      (both.0, both.1, refl, front_of slots (sym deep ∙ r.deep) r.line_holds.no_strangers after),
     )

@@ -13,7 +13,7 @@ use Rattle.request_slots.specs.declared.known.Known.{Known}
 use Rattle.request_slots.specs.declared.known.Phase.TheVariants.{Idle}
 use Rattle.request_slots.specs.declared.known.View.{View}
 use Rattle.request_slots.specs.declared.known.View.TheVariants.{Caller}
-use Rattle.request_slots.specs.Views.{known_of, left_in, pass_in, Collected, Rests}
+use Rattle.request_slots.specs.Views.{known_of, left_in, pass_in, Collected, FrontHolds}
 use Rattle.request_slots.specs.Seating.{Seated, IsSeated, hand_of, IsOrderly, seated_at, seats_of, IsNewAt}
 
 pub caller_word : (z y : TableId) (k : ℕ) → z ≡ y → z.words ≡ z.slots + 1 → k + 1 < z.slots → k + 2 < y.words
@@ -24,8 +24,8 @@ first_word z y k same wide inside = subst (λ (t : TableId). 1 < t.words) same (
 
 -- the caller sits at the same table after a step
 pub reseated : (old new : token.Seat Slot View) (number : ℕ) (idle idle' : Bool) (c : Known) → IsSeated old number idle → new.table_id ≡ old.table_id → new.me.0 ≡ Caller c → new.me.1 ≡ hand_of c
-    → c.number ≡ (known_of old.me.0).number → IsOrderly (pass_in c) → idle' ≡ not (left_in c.phase) → Rests c → IsSeated new number idle'
-reseated old new number idle idle' c seated same is hand number_is orderly idle_is rests = record {
+    → c.number ≡ (known_of old.me.0).number → IsOrderly (pass_in c) → idle' ≡ not (left_in c.phase) → FrontHolds old.table_id.slots c → IsSeated new number idle'
+reseated old new number idle idle' c seated same is hand number_is orderly idle_is front = record {
   is_caller = subst (λ (v : View). v ≡ Caller (known_of v)) (sym is) refl;
   number_is = ap (λ (v : View). (known_of v).number) is ∙ (number_is ∙ seated.number_is);
   idle_is = idle_is ∙ ap (λ (v : View). not (left_in (known_of v).phase)) (sym is);
@@ -34,7 +34,7 @@ reseated old new number idle idle' c seated same is hand number_is orderly idle_
   inside = subst (λ (t : TableId). number + 1 < t.slots) (sym same) seated.inside;
   few = subst (λ (t : TableId). t.slots ≤ 65) (sym same) seated.few;
   orderly = subst (λ (v : View). IsOrderly (pass_in (known_of v))) (sym is) orderly;
-  rests = subst (λ (v : View). Rests (known_of v)) (sym is) rests;
+  front = subst (λ (z : TableId × View). FrontHolds z.0.slots (known_of z.1)) (λ i. (sym same i, sym is i)) front;
 }
 
 -- what a caller keeps as it takes its outcome

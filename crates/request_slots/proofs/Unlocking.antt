@@ -30,7 +30,7 @@ use Rattle.request_slots.specs.Events.{Sat, Unlocks}
 use Rattle.request_slots.proofs.Stations.{put, abides_self, others_know}
 use Rattle.request_slots.proofs.Holders.{lock_is, pass_elsewhere}
 use Rattle.request_slots.proofs.Carrying.{part_free, lock_step, relocked, handed}
-use Rattle.request_slots.proofs.Looking.{phase_along, rests_of}
+use Rattle.request_slots.proofs.Looking.{phase_along, front_of}
 
 phase_left : (k : ℕ) (seen : List Entry) (own : List Call) (s : Station) (phase : Phase) → PhaseHolds k seen own s phase → left_in phase ≡ true → is_left s.stage ≡ true
 phase_left k seen own s Idle p e = absurd (cc e)
@@ -129,5 +129,5 @@ unlocks room slots id old me d put is has all_told history_is room_is spare =
             request_spaces = omega arith;
             outcome_spaces = omega arith;
           },
-          (refl, rests_of (unlock_knows room s r id c there (pass_in c) has all_told)),
+          (refl, front_of slots sized r.line_holds.no_strangers (unlock_knows room s r id c there (pass_in c) has all_told)),
         )

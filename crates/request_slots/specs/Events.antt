@@ -15,7 +15,7 @@ use Rattle.request_slots.specs.declared.known.Known.{Known}
 use Rattle.request_slots.specs.declared.known.View.{View}
 use Rattle.request_slots.specs.declared.known.View.TheVariants.{Caller}
 use Rattle.request_slots.specs.Passes.{takes_on, tries, strikes}
-use Rattle.request_slots.specs.Views.{known_of, pass_in, left_calls, left_start, leaving, locking, passing, committing, unlocking, looking, adopting, Rests, Collected, Meets, ShowsLine, IsSpare}
+use Rattle.request_slots.specs.Views.{known_of, pass_in, left_calls, left_start, leaving, locking, passing, committing, unlocking, looking, adopting, FrontHolds, Collected, Meets, ShowsLine, IsSpare}
 
 -- a seat: its view, and the slots in its hand
 abbrev pub Sat : Type 0
@@ -40,7 +40,7 @@ Posts st m found m' = (found ≡ 1) × (m'.0 ≡ Caller (leaving (known_of m.0) 
 abbrev pub Collects : Step Slot → Sat → ℕ → Sat → Type 0
 Collects st m found m' =
     (found ≡ 4 → (o : Outcome) × (c' : Known) × (m'.0 ≡ Caller c') × (m'.1 ≡ ((known_of m.0).number + 1, Told o) ∷ m.1)
-    × Collected (known_of m.0) (left_calls (known_of m.0).phase) (left_start (known_of m.0).phase) (fate_of o) c' × Rests c')
+    × Collected (known_of m.0) (left_calls (known_of m.0).phase) (left_start (known_of m.0).phase) (fate_of o) c' × FrontHolds st.slots c')
     × (found ≢ 4 → (m' ≡ m) × ((known_of m.0).settled ≡ false))
 
 -- the desk is taken, or another caller is found to have it
@@ -76,19 +76,19 @@ Tells st m found m' = (i : ℕ) → st.word ≡ i + 2
 abbrev pub Unlocks : Step Slot → Sat → ℕ → Sat → Type 0
 Unlocks st m found m' =
     (m' ≡ (Caller (unlocking (known_of m.0) (pass_in (known_of m.0))), rest m.1))
-    × Rests (unlocking (known_of m.0) (pass_in (known_of m.0)))
+    × FrontHolds st.slots (unlocking (known_of m.0) (pass_in (known_of m.0)))
 
 -- the line so far is seen, and its length found
 abbrev pub Looks : Step Slot → Sat → ℕ → Sat → Type 0
 Looks st m found m' =
     (line : List Entry) × (found ≡ length line) × Begins (known_of m.0).seen line
-    × (m' ≡ (Caller (looking (known_of m.0) line), m.1)) × Rests (looking (known_of m.0) line)
+    × (m' ≡ (Caller (looking (known_of m.0) line), m.1)) × FrontHolds st.slots (looking (known_of m.0) line)
 
 -- the longer of what was seen and what was told begins with both
 abbrev pub Adopts : Step Slot → Sat → ℕ → Sat → Type 0
 Adopts st m found m' =
     Begins (known_of m.0).seen (adopting (known_of m.0)).seen × Begins (known_of m.0).told (adopting (known_of m.0)).seen
-    × (m' ≡ (Caller (adopting (known_of m.0)), m.1)) × Rests (adopting (known_of m.0))
+    × (m' ≡ (Caller (adopting (known_of m.0)), m.1)) × FrontHolds st.slots (adopting (known_of m.0))
 
 -- a new caller is at its place, with its slot
 abbrev pub Arrives : Step Slot → Sat → ℕ → Sat → Type 0

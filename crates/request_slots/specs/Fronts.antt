@@ -5,6 +5,10 @@ use Rattle.call_history.specs.declared.entry.Entry.{Entry}
 use Rattle.call_history.specs.History.{Begins}
 use Rattle.call_history.specs.Callers.{calls_by}
 
+-- a history has no calls but of the first n callers
+abbrev pub IsOfCallers : ℕ → List Entry → Type 0
+IsOfCallers n history = (k : ℕ) → n ≤ k → calls_by k history ≡ []
+
 -- what a caller has seen, what it was told by another, and what it had seen when it left its calls begin the line
 pub record FrontsBegin (line seen told start : List Entry) : Type 0 where
   pub seen_begins : Begins seen line
@@ -14,4 +18,4 @@ pub record FrontsBegin (line seen told start : List Entry) : Type 0 where
 -- the length word is the length of the line, whose entries are all of callers of the table
 pub record LineHolds (n word : ℕ) (line : List Entry) : Type 0 where
   pub length_is : word ≡ length line
-  pub no_strangers : (k : ℕ) → n ≤ k → calls_by k line ≡ []
+  pub no_strangers : IsOfCallers n line

@@ -1,6 +1,6 @@
 -- The seat of a caller: what each `Seat` keeps, and which slots are in its hand, the one taken last in front.
 -- `Seated` is what a contract sees of a seat, and `IsSeated` what is always so of it.
-use Rattle.std.specs.Prelude.{◌≡◌, ℕ, zero, suc, ◌++◌, ◌+◌, ◌<◌, ◌≤◌, Bool, false, not, List, [], ◌∷◌, Option, Some, None}
+use Rattle.std.specs.Prelude.{◌≡◌, ℕ, zero, suc, ◌++◌, ◌+◌, ◌-◌, ◌<◌, ◌≤◌, Bool, false, not, List, [], ◌∷◌, Option, Some, None}
 use Rattle.atomic_table.specs.Seated.{TableId}
 use Rattle.atomic_table.specs.Table.{turned}
 use Rattle.atomic_table.specs.declared.shared.Seat as token
@@ -15,11 +15,15 @@ use Rattle.request_slots.specs.declared.known.Phase.TheVariants.{Idle, Left}
 use Rattle.request_slots.specs.declared.known.View.{View}
 use Rattle.request_slots.specs.declared.known.View.TheVariants.{Caller}
 use Rattle.request_slots.specs.Passes.{is_in}
-use Rattle.request_slots.specs.Views.{known_of, pass_in, newcomer, left_in, Rests}
+use Rattle.request_slots.specs.Views.{known_of, pass_in, newcomer, left_in, Rests, FrontHolds}
 
 -- the name of one table, for the crates above
 abbrev pub Machine : Type 0
 Machine = TableId
+
+-- how many callers a machine has: one slot is the desk's
+abbrev pub callers_of : Machine → ℕ
+callers_of m = m.slots - 1
 
 pub record Seated : Type 0 where
   pub table_id : TableId
@@ -61,7 +65,7 @@ abbrev pub turned_times : ℕ → Hand → Hand
 turned_times zero hand = hand
 turned_times (suc n) hand = turned (turned_times n hand)
 
--- what each seat keeps: it is a caller's, of this number, with these slots, and it rests while it is idle
+-- what each seat keeps: it is a caller's, of this number, with these slots, and what it has seen is so
 pub record IsSeated (seat : token.Seat Slot View) (number : ℕ) (idle : Bool) : Type 0 where
   pub is_caller : seat.me.0 ≡ Caller (known_of seat.me.0)
   pub number_is : (known_of seat.me.0).number ≡ number
@@ -71,7 +75,7 @@ pub record IsSeated (seat : token.Seat Slot View) (number : ℕ) (idle : Bool) :
   pub inside : number + 1 < seat.table_id.slots
   pub few : seat.table_id.slots ≤ 65
   pub orderly : IsOrderly (pass_in (known_of seat.me.0))
-  pub rests : Rests (known_of seat.me.0)
+  pub front : FrontHolds seat.table_id.slots (known_of seat.me.0)
 
 -- the seat of a new caller
 abbrev pub seated_at : TableId → ℕ → ℕ → Seated

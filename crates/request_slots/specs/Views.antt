@@ -1,6 +1,6 @@
 -- What a caller knows, and how each step changes it: the words of the contracts of the steps.
 -- Each function on `Known` is one event; what it does not name stays as it was.
-use Rattle.std.specs.Prelude.{◌≡◌, ◌≢◌, ◌⊎◌, ℕ, ◌+◌, ◌<◌, ◌≤◌, Bool, true, false, ◌&&◌, ◌||◌, List, [], ◌∷◌, ◌++◌, length, nat_lt, Option, Some, None, if◌then◌else◌, vec_capacity}
+use Rattle.std.specs.Prelude.{◌≡◌, ◌≢◌, ◌⊎◌, ℕ, ◌+◌, ◌-◌, ◌<◌, ◌≤◌, Bool, true, false, ◌&&◌, ◌||◌, List, [], ◌∷◌, ◌++◌, length, nat_lt, Option, Some, None, if◌then◌else◌, vec_capacity}
 use Rattle.cvl_text.specs.declared.call.Call.{Call}
 use Rattle.call_history.specs.declared.entry.Entry.{Entry}
 use Rattle.call_history.specs.declared.request.Outcome.{Outcome}
@@ -17,6 +17,7 @@ use Rattle.request_slots.specs.declared.known.Phase.TheVariants.{Idle, Left}
 use Rattle.request_slots.specs.declared.known.View.{View}
 use Rattle.request_slots.specs.declared.known.View.TheVariants.{Maker, Newcomer, Caller, Bare, Spent}
 use Rattle.request_slots.specs.Passes.{is_in, fresh_pass, commits}
+use Rattle.request_slots.specs.Fronts.{IsOfCallers}
 
 -- a caller that has seen nothing
 abbrev pub newcomer : ℕ → ℕ → Known
@@ -68,6 +69,11 @@ IsLeft c = c.phase ≡ Left (left_calls c.phase) (left_start c.phase)
 -- while a caller is idle, its own calls in what it has seen are its record, and no outcome waits for it
 abbrev pub Rests : Known → Type 0
 Rests c = c.phase ≡ Idle → (calls_by c.number c.seen ≡ c.own) × (c.settled ≡ false)
+
+-- What a caller of a table of so many slots may rely on of what it has seen: it rests there, and there are no calls but of callers
+-- of the table.
+abbrev pub FrontHolds : ℕ → Known → Type 0
+FrontHolds slots c = Rests c × IsOfCallers (slots - 1) c.seen
 
 abbrev pub pass_or : Option Pass → Pass
 pass_or (Some p) = p
@@ -149,7 +155,7 @@ pub record ShowsLine (slots : ℕ) (c : Known) (book : BookState) : Type 0 where
   pub room : book.room ≡ c.room
   pub begins : Begins c.seen book.history
   pub own : OwnCallsIn c book.history
-  pub no_strangers : (k : ℕ) → slots ≤ k + 1 → calls_by k book.history ≡ []
+  pub no_strangers : IsOfCallers (slots - 1) book.history
 
 -- a desk whose vectors are empty, with space for the callers of a table of so many slots
 pub record IsSpare (slots : ℕ) (d : Desk) : Type 0 where

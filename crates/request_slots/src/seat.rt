@@ -1,6 +1,7 @@
 ghost use Rattle.std.specs.Prelude.{◌≡◌, not, length};
+ghost use Rattle.request_slots.specs.Fronts.{IsOfCallers};
 ghost use Rattle.request_slots.specs.Views.{known_of, left_in, Rests};
-ghost use Rattle.request_slots.specs.Seating.{Seated, IsSeated, own_hand, turned_times};
+ghost use Rattle.request_slots.specs.Seating.{Seated, IsSeated, callers_of, own_hand, turned_times};
 
 use crate::desk::Slot;
 use crate::known::View;
@@ -34,6 +35,7 @@ impl Seat {
     pub fn is_idle(&self) -> bool
         ensures idle { result ≡ not (left_in self.now.known.phase) }
         ensures rests { Rests self.now.known }
+        ensures no_strangers { IsOfCallers (callers_of self.now.table_id) self.now.known.seen }
     {
         self.idle
     }

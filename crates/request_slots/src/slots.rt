@@ -37,7 +37,8 @@ impl Model for Slots {
 }
 
 impl Slots {
-    /// A table for so many callers, and their seats, numbered from 0 in order. All are idle and have seen nothing.
+    /// A table for so many callers, and their seats, numbered from 0 in order. All are idle. The history is empty, so what each
+    /// has seen, nothing, is all of it.
     pub fn new(
         alloc: Global,
         callers: usize,

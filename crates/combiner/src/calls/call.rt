@@ -1,7 +1,7 @@
 ghost use Rattle.std.specs.Prelude.{◌≡◌, IfOk, IfErr, OnErr};
 ghost use Rattle.call_history.specs.History.{Begins};
 ghost use Rattle.combiner.specs.Standing.{IsIdle, Rests};
-ghost use Rattle.combiner.specs.Says.{IsAnsweredTo};
+ghost use Rattle.combiner.specs.Says.{IsAnsweredTo, KeepsNotes};
 
 use crate::caller::Caller;
 use crate::shared::Shared;
@@ -29,6 +29,7 @@ impl Shared {
         ensures idle { IsIdle caller.new }
         ensures later { Begins caller.old.seen caller.new.seen }
         ensures rests { Rests caller.new }
+        ensures notes { KeepsNotes caller.old caller.new }
         ensures answered { IfOk result (λ answer. IsAnsweredTo call caller.old caller.new answer.0 answer.1) }
         ensures back { IfErr result (λ refused. refused.0 ≡ call) }
         ensures record_kept { OnErr result (caller.new.own ≡ caller.old.own) }

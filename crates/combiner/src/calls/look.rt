@@ -1,18 +1,22 @@
 ghost use Rattle.std.specs.Prelude.{◌≡◌, length};
 ghost use Rattle.call_history.specs.History.{Begins};
-ghost use Rattle.combiner.specs.Standing.{Rests};
+ghost use Rattle.request_slots.specs.Fronts.{IsOfCallers};
+ghost use Rattle.combiner.specs.Standing.{callers_of, IsIdle, Rests};
 ghost use Rattle.combiner.specs.Says.{seeing, longer_seen};
 
 use crate::caller::Caller;
 use crate::shared::Shared;
 
 impl Shared {
-    /// The length of the history, all of which the caller has then seen. It does not wait.
+    /// The length of the history, all of which the caller has then seen: calls of callers of the machine alone. With one
+    /// caller, which is idle, that is how many of its calls were answered. It does not wait.
     pub fn look(&self, caller: &mut Caller) -> u64
         requires { caller.old.machine ≡ self.now }
         ensures machine { caller.new.machine ≡ self.now }
         ensures length { result ≡ length caller.new.seen }
         ensures later { Begins caller.old.seen caller.new.seen }
+        ensures no_strangers { IsOfCallers (callers_of self.now) caller.new.seen }
+        ensures alone { callers_of self.now ≡ 1 → IsIdle caller.old → result ≡ length caller.new.own }
         ensures front { caller.new ≡ seeing caller.old caller.new.seen }
         ensures rests { Rests caller.new }
     {

@@ -1,7 +1,7 @@
 ghost use Rattle.std.specs.Prelude.{◌≡◌, IfOk, IfErr, OnErr};
 ghost use Rattle.call_history.specs.History.{Begins};
 ghost use Rattle.combiner.specs.Standing.{IsIdle, HasLeft, Rests};
-ghost use Rattle.combiner.specs.Says.{IsAnsweredAtLast, IsWhatWasLeft};
+ghost use Rattle.combiner.specs.Says.{IsAnsweredAtLast, IsWhatWasLeft, KeepsNotes};
 
 use crate::answers::{Combined, Polled};
 use crate::caller::Caller;
@@ -36,6 +36,7 @@ impl Shared {
         ensures idle { IsIdle caller.new }
         ensures later { Begins caller.old.seen caller.new.seen }
         ensures rests { Rests caller.new }
+        ensures notes { KeepsNotes caller.old caller.new }
         ensures answered { IfOk result (λ answer. IsAnsweredAtLast caller.old caller.new answer.0 answer.1) }
         ensures back { IfErr result (λ refused. IsWhatWasLeft caller.old refused.0) }
         ensures record_kept { OnErr result (caller.new.own ≡ caller.old.own) }

@@ -1,6 +1,8 @@
 ghost use Rattle.std.specs.Prelude.{◌≡◌, false, IfSome, IfNone};
 ghost use Rattle.call_history.specs.Fits.{fate_of};
+ghost use Rattle.request_slots.specs.Fronts.{IsOfCallers};
 ghost use Rattle.request_slots.specs.Views.{left_calls, left_start, Collected, IsLeft, Rests};
+ghost use Rattle.request_slots.specs.Seating.{callers_of};
 
 use crate::desk::Slot;
 use crate::plays::Collect;
@@ -18,6 +20,7 @@ impl Slots {
             (left_start seat.old.known.phase) (fate_of o) seat.new.known) }
         ensures waiting { IfNone result ((seat.new.known ≡ seat.old.known) × (seat.old.known.settled ≡ false)) }
         ensures rests { Rests seat.new.known }
+        ensures no_strangers { IsOfCallers (callers_of seat.new.table_id) seat.new.known.seen }
     {
         let number = seat.number;
         let shared = &self.table.shared;

@@ -1,13 +1,15 @@
 ghost use Rattle.std.specs.Prelude.{◌≡◌, length};
 ghost use Rattle.call_history.specs.History.{Begins};
+ghost use Rattle.request_slots.specs.Fronts.{IsOfCallers};
 ghost use Rattle.request_slots.specs.Views.{looking, informed, adopting, Rests};
+ghost use Rattle.request_slots.specs.Seating.{callers_of};
 
 use crate::plays::{Adopt, Look, Show};
 use crate::seat::Seat;
 use crate::slots::Slots;
 
 impl Slots {
-    /// The length of the history committed, all of which the caller has then seen.
+    /// The length of the history committed, all of which the caller has then seen: calls of callers of the table alone.
     pub fn step_look(&self, seat: &mut Seat) -> u64
         requires place { seat.old.table_id ≡ self.now }
         ensures place { seat.new.table_id ≡ self.now }
@@ -15,6 +17,7 @@ impl Slots {
         ensures later { Begins seat.old.known.seen seat.new.known.seen }
         ensures length { result ≡ length seat.new.known.seen }
         ensures rests { Rests seat.new.known }
+        ensures no_strangers { IsOfCallers (callers_of seat.new.table_id) seat.new.known.seen }
     {
         self.table.shared.load::<Look>(&mut seat.seat, 1)
     }
@@ -27,6 +30,7 @@ impl Slots {
         ensures own { Begins seat.old.known.seen seat.new.known.seen }
         ensures told { Begins other.old.known.seen seat.new.known.seen }
         ensures rests { Rests seat.new.known }
+        ensures no_strangers { IsOfCallers (callers_of seat.new.table_id) seat.new.known.seen }
         ensures other { other.new ≡ other.old }
     {
         let shared = &self.table.shared;

@@ -1,5 +1,7 @@
 ghost use Rattle.std.specs.Prelude.{◌≡◌, []};
+ghost use Rattle.request_slots.specs.Fronts.{IsOfCallers};
 ghost use Rattle.request_slots.specs.Views.{pass_in, unlocking, HasDesk, IsSpare, Rests};
+ghost use Rattle.request_slots.specs.Seating.{callers_of};
 
 use crate::desk::{Desk, Slot};
 use crate::plays::Unlock;
@@ -18,6 +20,7 @@ impl Slots {
         ensures place { seat.new.table_id ≡ self.now }
         ensures known { seat.new.known ≡ unlocking seat.old.known (pass_in seat.old.known) }
         ensures rests { Rests seat.new.known }
+        ensures no_strangers { IsOfCallers (callers_of seat.new.table_id) seat.new.known.seen }
     {
         let shared = &self.table.shared;
         shared.exchange(&mut seat.seat, 0, Slot::Kept(desk));

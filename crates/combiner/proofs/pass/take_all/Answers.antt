@@ -31,7 +31,7 @@ loop-i-preserved c =
 
 pub loop-i-preserved-then-passes_by : goal.loop-i-preserved-then-passes_by
 loop-i-preserved-then-passes_by c = (
-    taking_misses _ _ _ c.loop-i.i _ _ (c.passes_by.ensures.passed c.if-passes_by.true) c.loop-i.invariant.0,
-    c.passes_by.ensures.place,
-    c.loop-i.invariant.2,
-  )
+  taking_misses _ _ _ c.loop-i.i _ _ (c.passes_by.ensures.passed c.if-passes_by.true) c.loop-i.invariant.0,
+  c.passes_by.ensures.place,
+  c.loop-i.invariant.2,
+)

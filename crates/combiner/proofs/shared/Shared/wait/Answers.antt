@@ -20,6 +20,9 @@ returns-in-Answered-clause-idle g c = (waiting_answered _ _ _ _ _ (waiting_combi
 pub returns-in-Answered-clause-later : goal.returns-in-Answered-clause-later
 returns-in-Answered-clause-later g c = (waiting_answered _ _ _ _ _ (waiting_combines _ _ _ c.combine-combined.result c.loop.invariant.1 c.combine-combined.ensures.busy c.combine-combined.ensures.served c.combine-combined.ensures.later) c.in-Answered.ensures.answered).0.later
 
+pub returns-in-Answered-clause-notes : goal.returns-in-Answered-clause-notes
+returns-in-Answered-clause-notes g c = (waiting_answered _ _ _ _ _ (waiting_combines _ _ _ c.combine-combined.result c.loop.invariant.1 c.combine-combined.ensures.busy c.combine-combined.ensures.served c.combine-combined.ensures.later) c.in-Answered.ensures.answered).0.notes
+
 pub returns-in-Answered-clause-answered : goal.returns-in-Answered-clause-answered
 returns-in-Answered-clause-answered g c = (waiting_answered _ _ _ _ _ (waiting_combines _ _ _ c.combine-combined.result c.loop.invariant.1 c.combine-combined.ensures.busy c.combine-combined.ensures.served c.combine-combined.ensures.later) c.in-Answered.ensures.answered).1
 
@@ -34,6 +37,9 @@ returns-in-OutOfMemory-clause-idle g c = (waiting_given_back _ _ _ _ (waiting_co
 
 pub returns-in-OutOfMemory-clause-later : goal.returns-in-OutOfMemory-clause-later
 returns-in-OutOfMemory-clause-later g c = (waiting_given_back _ _ _ _ (waiting_combines _ _ _ c.combine-combined.result c.loop.invariant.1 c.combine-combined.ensures.busy c.combine-combined.ensures.served c.combine-combined.ensures.later) c.in-OutOfMemory.ensures.back).0.later
+
+pub returns-in-OutOfMemory-clause-notes : goal.returns-in-OutOfMemory-clause-notes
+returns-in-OutOfMemory-clause-notes g c = (waiting_given_back _ _ _ _ (waiting_combines _ _ _ c.combine-combined.result c.loop.invariant.1 c.combine-combined.ensures.busy c.combine-combined.ensures.served c.combine-combined.ensures.later) c.in-OutOfMemory.ensures.back).0.notes
 
 pub returns-in-OutOfMemory-clause-back : goal.returns-in-OutOfMemory-clause-back
 returns-in-OutOfMemory-clause-back g c = (waiting_given_back _ _ _ _ (waiting_combines _ _ _ c.combine-combined.result c.loop.invariant.1 c.combine-combined.ensures.busy c.combine-combined.ensures.served c.combine-combined.ensures.later) c.in-OutOfMemory.ensures.back).1

@@ -32,10 +32,10 @@ invariant_of-seat c = let seated = c.seat.invariant in
     let then = c.load.ensures.2 c.args.i refl in
     dite (ℕ_discrete c.load.result 2)
     (λ hit. let now = then.0 hit in
-    reseated c.seat.inside.seat _ _ _ _ k seated c.load.ensures.0 (ap (λ m. m.0) now ∙ seated.is_caller) (ap (λ m. m.1) now ∙ seated.hand_is) refl seated.orderly seated.idle_is seated.rests)
+    reseated c.seat.inside.seat _ _ _ _ k seated c.load.ensures.0 (ap (λ m. m.0) now ∙ seated.is_caller) (ap (λ m. m.1) now ∙ seated.hand_is) refl seated.orderly seated.idle_is seated.front)
     (λ miss. let now = then.1 miss in
     reseated c.seat.inside.seat _ _ _ _ (passing k (tries (pass_in k) c.args.i)) seated c.load.ensures.0 (ap (λ m. m.0) now)
-    (ap (λ m. m.1) now ∙ (seated.hand_is ∙ hand_tries k c.args.i desk)) refl (orderly_tries (pass_in k) c.args.i seated.orderly) seated.idle_is seated.rests)
+    (ap (λ m. m.1) now ∙ (seated.hand_is ∙ hand_tries k c.args.i desk)) refl (orderly_tries (pass_in k) c.args.i seated.orderly) seated.idle_is seated.front)
 
 pub returns-clause-passed : goal.returns-clause-passed
 returns-clause-passed c passed =

@@ -62,7 +62,7 @@ invariant_of-seat c = let seated = c.seat.invariant in
     ∙ (ap (λ (h : Hand). turned_times n (turned (turned_times c.args.before (rest (turned_times c.args.after h))))) seated.hand_is
     ∙ (ap (λ (h : Hand). turned_times n (turned (turned_times c.args.before (rest h)))) (hand_turned k c.args.i c.args.after t.0 t.1 t.2 desk there t.5)
     ∙ hand_strikes k c.args.i n c.args.before t.0 t.1 t.2 seated.orderly there t.4 own))))))))
-    refl (strikes_middle (pass_in k) c.args.i t.0 t.1 t.2 seated.orderly there).1 seated.idle_is seated.rests
+    refl (strikes_middle (pass_in k) c.args.i t.0 t.1 t.2 seated.orderly there).1 seated.idle_is seated.front
 
 pub returns-clause-known : goal.returns-clause-known
 returns-clause-known c =

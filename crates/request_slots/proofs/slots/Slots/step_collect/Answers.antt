@@ -1,10 +1,11 @@
 use Rattle.std.proofs.Common.{rules, not, ◌≡◌, ℕ, ◌+◌, ◌∷◌, [], ◌++◌, ◌∙◌, sym, ap, subst}
+use Rattle.atomic_table.specs.Seated.{TableId}
 use Rattle.atomic_table.specs.Table.{rest, turned}
 use Rattle.call_history.specs.Fits.{fate_of}
 use Rattle.request_slots.specs.declared.desk.Slot.TheVariants.{Nothing, Told}
 use Rattle.request_slots.specs.declared.known.Known.{Known}
 use Rattle.request_slots.specs.declared.known.Phase.{Phase}
-use Rattle.request_slots.specs.Views.{known_of, IsLeft, left_in, pass_or, left_calls, left_start}
+use Rattle.request_slots.specs.Views.{known_of, FrontHolds, IsLeft, left_in, pass_or, left_calls, left_start}
 use Rattle.request_slots.specs.Seating.{Seated, IsOrderly}
 use Rattle.request_slots.proofs.Asking.{collects}
 use Rattle.request_slots.proofs.Hands.{front_is, hand_collects}
@@ -28,9 +29,10 @@ invariant_of-seat-2 c = let seated = c.seat.invariant in
     let k : Known = known_of c.seat.inside.seat.me.0 in
     let t = c.compare_exchange.ensures.2.0 c.if-compare_exchange-ne4.false in
     let kept = collected_keeps k (left_calls k.phase) (left_start k.phase) (fate_of t.0) t.1 t.4 in
+    let same : c.seat.inside.seat.table_id ≡ c.self.inside.table.shared.table_id = ap (λ (z : Seated). z.table_id) c.seat.view_is ∙ (c.requires.place ∙ sym c.self.view_is) in
     let put = c.exchange.ensures.3 in
     let now = c.turn.ensures.2 in
     reseated c.seat.inside.seat _ _ _ _ t.1 seated (search rules) (ap (λ m. m.0) now ∙ (ap (λ m. m.0) put ∙ t.2))
     (ap (λ m. m.1) now ∙ (ap (λ m. turned m.1) put ∙ (ap (λ h. rest h ++ (c.seat.inside.number + 1, Nothing) ∷ []) t.3 ∙ (ap (λ h. h ++ (c.seat.inside.number + 1, Nothing) ∷ []) seated.hand_is
     ∙ hand_collects k t.1 c.seat.inside.number seated.number_is (subst IsLeft (sym known) c.requires.left) kept))))
-    kept.2 (subst IsOrderly (ap pass_or (sym kept.0)) seated.orderly) (ap (λ (p : Phase). not (left_in p)) (sym kept.1)) t.5
+    kept.2 (subst IsOrderly (ap pass_or (sym kept.0)) seated.orderly) (ap (λ (p : Phase). not (left_in p)) (sym kept.1)) (subst (λ (z : TableId). FrontHolds z.slots t.1) (sym same) t.5)

@@ -32,7 +32,7 @@ invariant_of-seat c = let seated = c.seat.invariant in
     let k : Known = known_of c.seat.inside.seat.me.0 in
     let now = (c.compare_exchange.ensures.2 c.args.i refl).1 c.if-compare_exchange-ne2.true in
     reseated c.seat.inside.seat _ _ _ _ (passing k (tries (pass_in k) c.args.i)) seated c.compare_exchange.ensures.0 (ap (λ m. m.0) now)
-    (ap (λ m. m.1) now ∙ (seated.hand_is ∙ hand_tries k c.args.i desk)) refl (orderly_tries (pass_in k) c.args.i seated.orderly) seated.idle_is seated.rests
+    (ap (λ m. m.1) now ∙ (seated.hand_is ∙ hand_tries k c.args.i desk)) refl (orderly_tries (pass_in k) c.args.i seated.orderly) seated.idle_is seated.front
 
 pub exchange-requires : goal.exchange-requires
 exchange-requires c =
@@ -53,4 +53,4 @@ invariant_of-seat-2 c = let seated = c.seat.invariant in
     let now = c.exchange.ensures.3 in
     reseated c.seat.inside.seat _ _ _ _ (passing k (takes_on (pass_in k) c.args.i t.0)) seated (search rules) (ap (λ m. m.0) now ∙ t.1)
     (ap (λ m. m.1) now ∙ (ap (λ h. (c.args.i + 1, Nothing) ∷ rest h) t.2 ∙ (ap (λ h. (c.args.i + 1, Nothing) ∷ h) seated.hand_is ∙ hand_takes k c.args.i t.0 desk)))
-    refl (orderly_takes (pass_in k) c.args.i t.0 (ap (λ (k : Known). is_in (pass_in k).tried c.args.i) known ∙ c.requires.untried) seated.orderly) seated.idle_is seated.rests
+    refl (orderly_takes (pass_in k) c.args.i t.0 (ap (λ (k : Known). is_in (pass_in k).tried c.args.i) known ∙ c.requires.untried) seated.orderly) seated.idle_is seated.front
