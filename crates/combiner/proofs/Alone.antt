@@ -7,9 +7,7 @@ use Rattle.cvl_text.specs.declared.call.Call.{Call}
 use Rattle.call_history.specs.declared.entry.Entry.{Entry}
 use Rattle.call_history.specs.History.{call_of}
 use Rattle.call_history.specs.Callers.{entries_by, calls_by}
-use Rattle.request_slots.specs.Fronts.{IsOfCallers}
-use Rattle.request_slots.specs.Views.{left_calls}
-use Rattle.combiner.specs.Standing.{Machine, Standing, IsIdle, callers_of}
+use Rattle.combiner.specs.Standing.{Machine, Standing, IsIdle, IsOfCallers, callers_of, left_calls}
 use Rattle.combiner.specs.Says.{HasOwnCalls}
 
 -- all entries are of caller 0

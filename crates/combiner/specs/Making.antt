@@ -3,7 +3,7 @@
 use Rattle.std.specs.Prelude.{◌≡◌, ◌⊎◌, ℕ, ◌+◌, ◌<◌, ◌≤◌}
 use Rattle.vector_memory.specs.States.{IsLawfulRoom, room_limit}
 use Rattle.call_history.specs.Callers.{caller_limit}
-use Rattle.request_slots.specs.Seating.{Machine}
+use Rattle.combiner.specs.Standing.{Machine}
 use Rattle.combiner.specs.declared.fault.MakeFault.{MakeFault}
 use Rattle.combiner.specs.declared.fault.MakeFault.TheVariants.{BadCallers, BadRoom, OutOfMemory}
 

@@ -1,14 +1,15 @@
--- What contracts know of a caller between two calls, and the words for it.
+-- What contracts know of a caller between two calls, and the words for it. Those of the crate below are passed on.
 -- `Standing` is the whole of it; `IsIdle`, `HasLeft` and `Rests` speak of its phase; `newcomers` are the callers of a new machine.
 use Rattle.std.specs.Prelude.{◌≡◌, ℕ, zero, suc, ◌+◌, ◌<◌, Bool, false, List, [], ◌∷◌, ◌++◌, None}
 use Rattle.cvl_text.specs.declared.call.Call.{Call}
 use Rattle.call_history.specs.declared.entry.Entry.{Entry}
 use Rattle.call_history.specs.Callers.{calls_by}
 use Rattle.request_slots.specs.declared.known.Phase.{Phase}
-use Rattle.request_slots.specs.declared.known.Phase.TheVariants.{Idle, Left}
-use Rattle.request_slots.specs.Fronts.{IsOfCallers}
+pub use Rattle.request_slots.specs.declared.known.Phase.TheVariants.{Idle, Left}
+pub use Rattle.request_slots.specs.Fronts.{IsOfCallers}
 use Rattle.request_slots.specs.Seating.{Seated}
 pub use Rattle.request_slots.specs.Seating.{Machine, callers_of}
+pub use Rattle.request_slots.specs.Views.{left_calls}
 
 pub record Standing : Type 0 where
   -- the machine that it calls

@@ -1,6 +1,5 @@
 ghost use Rattle.std.specs.Prelude.{◌≡◌, ◌↔◌, ◌<◌, IsTrue, All, map, IfOk};
-ghost use Rattle.request_slots.specs.Fronts.{IsOfCallers};
-ghost use Rattle.combiner.specs.Standing.{Standing, standing, IsIdle, IsResting, IsNewSeat, Rests, callers_of};
+ghost use Rattle.combiner.specs.Standing.{Standing, standing, IsIdle, IsResting, IsNewSeat, Rests, callers_of, IsOfCallers};
 
 use request_slots::Seat;
 use std::alloc::Global;

@@ -2,11 +2,10 @@
 
 ghost use Rattle.std.specs.Prelude.{◌≡◌, ◌+◌, ◌<◌, ◌≤◌, [], length, None, Some, IfSome, IfNone, vec_len, vec_capacity};
 ghost use Rattle.call_history.specs.Fits.{Fits};
-ghost use Rattle.request_slots.specs.Fronts.{IsOfCallers};
 ghost use Rattle.request_slots.specs.Passes.{fresh_pass};
 ghost use Rattle.request_slots.specs.Views.{pass_in, Meets, Rests};
 ghost use Rattle.request_slots.specs.WholePass.{IsRun, Telling};
-ghost use Rattle.combiner.specs.Standing.{callers_of};
+ghost use Rattle.combiner.specs.Standing.{callers_of, IsOfCallers};
 ghost use Rattle.combiner.specs.Passes.{Taking, IsBatch, HasServed};
 
 use call_history::{Book, Outcome, Request};

@@ -1,8 +1,7 @@
 ghost use Rattle.std.specs.Prelude.{◌≡◌, ◌<◌, length, IfOk, IfErr, OnOk, OnErr, All};
 ghost use Rattle.vector_memory.specs.States.{IsLawfulRoom};
 ghost use Rattle.call_history.specs.History.{Begins};
-ghost use Rattle.request_slots.specs.Fronts.{IsOfCallers};
-ghost use Rattle.combiner.specs.Standing.{Machine, callers_of, newcomers, IsIdle, IsNewAt};
+ghost use Rattle.combiner.specs.Standing.{Machine, callers_of, newcomers, IsIdle, IsNewAt, IsOfCallers};
 ghost use Rattle.combiner.specs.Making.{IsLawfulCount, IsMadeImpossible, IsSized};
 ghost use Rattle.combiner.specs.Says.{FindsAnother, HasOwnCalls};
 

@@ -1,7 +1,7 @@
 -- What each step tells the seat that makes it: of the step, the seat before, the number found at the word, and the seat after.
 -- The seat is its view and the slots in its hand. The changes of the view are those of `Views`.
 use Rattle.std.specs.Global.{Box}
-use Rattle.std.specs.Prelude.{◌≡◌, ◌≢◌, ℕ, ◌+◌, false, List, [], ◌∷◌, length}
+use Rattle.std.specs.Prelude.{◌≡◌, ◌≢◌, ℕ, false, List, [], ◌∷◌, length}
 use Rattle.atomic_table.specs.Table.{Me, Step, rest}
 use Rattle.cvl_text.specs.declared.call.Call.{Call}
 use Rattle.call_history.specs.declared.entry.Entry.{Entry}
@@ -14,6 +14,7 @@ use Rattle.request_slots.specs.declared.desk.Slot.TheVariants.{Nothing, Asked, T
 use Rattle.request_slots.specs.declared.known.Known.{Known}
 use Rattle.request_slots.specs.declared.known.View.{View}
 use Rattle.request_slots.specs.declared.known.View.TheVariants.{Caller}
+use Rattle.request_slots.specs.Stages.{word_of, desk_slot, slot_of, idle, posted, done, code}
 use Rattle.request_slots.specs.Passes.{takes_on, tries, strikes}
 use Rattle.request_slots.specs.Views.{known_of, pass_in, left_calls, left_start, leaving, locking, passing, committing, unlocking, looking, adopting, FrontHolds, Collected, Meets, ShowsLine, IsSpare}
 
@@ -34,34 +35,34 @@ calls_in_hand (x ∷ hand) = calls_in x.1
 
 -- a caller posts the calls that lie in its hand
 abbrev pub Posts : Step Slot → Sat → ℕ → Sat → Type 0
-Posts st m found m' = (found ≡ 1) × (m'.0 ≡ Caller (leaving (known_of m.0) (calls_in_hand m.1))) × (m'.1 ≡ rest m.1)
+Posts st m found m' = (found ≡ code idle) × (m'.0 ≡ Caller (leaving (known_of m.0) (calls_in_hand m.1))) × (m'.1 ≡ rest m.1)
 
 -- a caller takes its outcome, or finds none yet
 abbrev pub Collects : Step Slot → Sat → ℕ → Sat → Type 0
 Collects st m found m' =
-    (found ≡ 4 → (o : Outcome) × (c' : Known) × (m'.0 ≡ Caller c') × (m'.1 ≡ ((known_of m.0).number + 1, Told o) ∷ m.1)
+    (found ≡ code done → (o : Outcome) × (c' : Known) × (m'.0 ≡ Caller c') × (m'.1 ≡ (slot_of (known_of m.0).number, Told o) ∷ m.1)
     × Collected (known_of m.0) (left_calls (known_of m.0).phase) (left_start (known_of m.0).phase) (fate_of o) c' × FrontHolds st.slots c')
-    × (found ≢ 4 → (m' ≡ m) × ((known_of m.0).settled ≡ false))
+    × (found ≢ code done → (m' ≡ m) × ((known_of m.0).settled ≡ false))
 
 -- the desk is taken, or another caller is found to have it
 abbrev pub Locks : Step Slot → Sat → ℕ → Sat → Type 0
 Locks st m found m' =
     (found ≡ 0 → (d : Box Desk) × IsSpare st.slots d.value × ShowsLine st.slots (known_of m.0) d.value.book
-    × (m'.0 ≡ Caller (locking (known_of m.0) d.value.book.history)) × (m'.1 ≡ (0, Kept d) ∷ m.1))
+    × (m'.0 ≡ Caller (locking (known_of m.0) d.value.book.history)) × (m'.1 ≡ (desk_slot, Kept d) ∷ m.1))
     × (found ≢ 0 → (c' : Known) × Meets st.slots (known_of m.0) c' × (m' ≡ (Caller c', m.1)))
 
--- the request of caller st.word - 2 is taken, or its word only counts as tried
+-- the request of the caller of this word is taken, or its word only counts as tried
 abbrev pub Takes : Step Slot → Sat → ℕ → Sat → Type 0
-Takes st m found m' = (i : ℕ) → st.word ≡ i + 2
-    → (found ≡ 2 → (call : Call) × (m'.0 ≡ Caller (passing (known_of m.0) (takes_on (pass_in (known_of m.0)) i call)))
-    × (m'.1 ≡ (i + 1, Asked call) ∷ m.1))
-    × (found ≢ 2 → m' ≡ (Caller (passing (known_of m.0) (tries (pass_in (known_of m.0)) i)), m.1))
+Takes st m found m' = (i : ℕ) → st.word ≡ word_of i
+    → (found ≡ code posted → (call : Call) × (m'.0 ≡ Caller (passing (known_of m.0) (takes_on (pass_in (known_of m.0)) i call)))
+    × (m'.1 ≡ (slot_of i, Asked call) ∷ m.1))
+    × (found ≢ code posted → m' ≡ (Caller (passing (known_of m.0) (tries (pass_in (known_of m.0)) i)), m.1))
 
 -- a look at a word before a try: where nothing is posted the word counts as tried, else nothing changes
 abbrev pub Skips : Step Slot → Sat → ℕ → Sat → Type 0
-Skips st m found m' = (i : ℕ) → st.word ≡ i + 2
-    → (found ≡ 2 → m' ≡ m)
-    × (found ≢ 2 → m' ≡ (Caller (passing (known_of m.0) (tries (pass_in (known_of m.0)) i)), m.1))
+Skips st m found m' = (i : ℕ) → st.word ≡ word_of i
+    → (found ≡ code posted → m' ≡ m)
+    × (found ≢ code posted → m' ≡ (Caller (passing (known_of m.0) (tries (pass_in (known_of m.0)) i)), m.1))
 
 -- the line becomes this one, with these outcomes
 abbrev pub Commits : List Entry → List Outcome → Step Slot → Sat → ℕ → Sat → Type 0
@@ -69,7 +70,7 @@ Commits line outcomes st m found m' = m' ≡ (Caller (committing (known_of m.0) 
 
 -- the outcome in the hand goes home
 abbrev pub Tells : Step Slot → Sat → ℕ → Sat → Type 0
-Tells st m found m' = (i : ℕ) → st.word ≡ i + 2
+Tells st m found m' = (i : ℕ) → st.word ≡ word_of i
     → m' ≡ (Caller (passing (known_of m.0) (strikes (pass_in (known_of m.0)) i)), rest m.1)
 
 -- the desk in the hand goes home
@@ -92,4 +93,4 @@ Adopts st m found m' =
 
 -- a new caller is at its place, with its slot
 abbrev pub Arrives : Step Slot → Sat → ℕ → Sat → Type 0
-Arrives st m found m' = m' ≡ (Caller (known_of m.0), ((known_of m.0).number + 1, Nothing) ∷ [])
+Arrives st m found m' = m' ≡ (Caller (known_of m.0), (slot_of (known_of m.0).number, Nothing) ∷ [])

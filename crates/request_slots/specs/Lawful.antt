@@ -12,7 +12,7 @@ use Rattle.request_slots.specs.declared.known.Pass.{Pass}
 use Rattle.request_slots.specs.declared.known.Known.{Known}
 use Rattle.request_slots.specs.declared.known.View.{View}
 use Rattle.request_slots.specs.declared.known.View.TheVariants.{Maker, Newcomer, Caller, Bare, Spent}
-use Rattle.request_slots.specs.Stages.{unmade, Station}
+use Rattle.request_slots.specs.Stages.{lock_word, length_word, word_of, desk_slot, slot_of, unmade, Station}
 use Rattle.request_slots.specs.Passes.{Lock, pass_of, part_of}
 use Rattle.request_slots.specs.Fronts.{FrontsBegin, LineHolds}
 use Rattle.request_slots.specs.Locks.{LockHolds, HolderSits, SitApart, MadeSit}
@@ -74,15 +74,15 @@ pub record Lawful (room : ℕ) (s : State Slot View) : Type 0 where
   pub deep : length s.homes ≡ n + 1
   pub not_made : (k : ℕ) → made ≤ k → IsNotMade (station k)
   -- 2. The length word is the length of the line, whose entries are of callers of the table (Fronts).
-  pub line_holds : LineHolds n (slice_index s.words 1) line
+  pub line_holds : LineHolds n (slice_index s.words length_word) line
   -- 3. The lock word names exactly the seat that has the desk, and each caller that was made has one seat (Locks).
-  pub lock_holds : LockHolds room n line (slice_index s.words 0) (get_elem? s.homes 0) lock
+  pub lock_holds : LockHolds room n line (slice_index s.words lock_word) (get_elem? s.homes desk_slot) lock
   pub holder_sits : HolderSits s.views station lock
   pub sit_apart : SitApart s.views
   pub made_sit : MadeSit s.views station made
   -- 4. In each caller's slot lies what its word says (Requests). Of a slot that is out, the desk's too, the rule says no more: whose
   -- hand it is in, in which order, and that it is empty there stands at the seat (`IsSeated` of Seating), which keeps it by itself.
   pub each_caller : (k : ℕ) → k < n
-      → CallerHolds room line (part_of lock k) (slice_index s.words (k + 2)) (get_elem? s.homes (k + 1)) k (station k)
+      → CallerHolds room line (part_of lock k) (slice_index s.words (word_of k)) (get_elem? s.homes (slot_of k)) k (station k)
   -- 1, 3, 5, 6, 7. Each seat knows only what is so.
   pub each_seat : (j : ℕ) (v : View) → get_elem? s.views j ≡ some v → Knows room n made line lock station j v

@@ -14,6 +14,7 @@ use Rattle.request_slots.specs.declared.known.Phase.{Phase}
 use Rattle.request_slots.specs.declared.known.Phase.TheVariants.{Idle, Left}
 use Rattle.request_slots.specs.declared.known.View.{View}
 use Rattle.request_slots.specs.declared.known.View.TheVariants.{Caller}
+use Rattle.request_slots.specs.Stages.{desk_slot, slot_of}
 use Rattle.request_slots.specs.Passes.{is_in}
 use Rattle.request_slots.specs.Views.{known_of, pass_in, newcomer, left_in, Rests, FrontHolds}
 
@@ -34,18 +35,18 @@ Hand = List (ℕ × Slot)
 
 -- an idle caller has its own slot
 abbrev pub own_hand : ℕ → Phase → Hand
-own_hand k Idle = (k + 1, Nothing) ∷ []
+own_hand k Idle = (slot_of k, Nothing) ∷ []
 own_hand k (Left calls start) = []
 
 -- the slots of these requests, the last one first, and then the others
 abbrev pub stacked : List Request → Hand → Hand
 stacked [] hand = hand
-stacked (r ∷ rs) hand = stacked rs ((r.caller + 1, Nothing) ∷ hand)
+stacked (r ∷ rs) hand = stacked rs ((slot_of r.caller, Nothing) ∷ hand)
 
 -- the caller that has the desk has its slot, and the slots of the requests taken
 abbrev pub pass_hand : Option Pass → Hand → Hand
 pass_hand None hand = hand
-pass_hand (Some p) hand = stacked p.taken ((0, Nothing) ∷ hand)
+pass_hand (Some p) hand = stacked p.taken ((desk_slot, Nothing) ∷ hand)
 
 abbrev pub hand_of : Known → Hand
 hand_of c = pass_hand c.pass (own_hand c.number c.phase)

@@ -2,9 +2,8 @@
 //! Incze, Shavit and Tzafrir, 2010). Between any two steps of any threads the table keeps the one rule of
 //! `specs/Lawful.antt`: there is one history, and each caller has seen a beginning of it.
 //!
-//! Word 0 is the lock: 0, or 1 more than the caller that has the desk. Word 1 is the length of the history.
-//! Word `k + 2` is the word of caller `k`: 0 unmade, 1 idle, 2 posted, 3 taken, 4 done.
-//! Slot 0 has the desk, and slot `k + 1` what caller `k` asked, or what it is told.
+//! One word is the lock, one the length of the history, and each caller has a word and a slot of its own: `places` says which,
+//! and what the words say. One slot has the desk.
 //!
 //! A pass is `step_lock`, `step_take` once for each caller, `step_commit`, `step_answer` for each request taken and
 //! `step_unlock`. A caller that asks takes `step_post`, and `step_collect` until it is told.
@@ -13,6 +12,7 @@
 mod batch;
 mod desk;
 mod known;
+mod places;
 mod plays;
 mod seat;
 mod slots;

@@ -8,6 +8,7 @@ ghost use Rattle.request_slots.specs.Seating.{seated_at, seats_of, IsNewAt};
 
 use crate::desk::{Desk, Slot};
 use crate::known::View;
+use crate::places::{IDLE, UNMADE, slot_at, word_at};
 use crate::plays::{Arrive, Make};
 use crate::seat::Seat;
 use atomic_table::{Table, TableRule};
@@ -53,7 +54,8 @@ impl Slots {
     {
         let room = desk.book.room();
         let mut seats = Vec::with_capacity(alloc, callers)?;
-        let words = Vec::from_elem(alloc, 0u64, callers + 2)?;
+        // No word stands behind that of the last caller. The lock is free and the length 0, which is the number of UNMADE too.
+        let words = Vec::from_elem(alloc, UNMADE, word_at(callers))?;
         let homes = homes_of(alloc, callers, desk)?;
         let Ok((table, mut maker)) = Table::new(alloc, words.as_slice(), homes, &room) else {
             return Err(OutOfMemory);
@@ -91,7 +93,7 @@ impl Slots {
     {
         let shared = &self.table.shared;
         let mut seat = shared.split_seat::<Make>(maker);
-        shared.store::<Arrive>(&mut seat, number + 2, 1);
+        shared.store::<Arrive>(&mut seat, word_at(number), IDLE);
         Seat {
             seat,
             number,
@@ -105,7 +107,7 @@ fn homes_of(alloc: Global, callers: usize, desk: Box<Desk>) -> Result<Vec<Slot>,
     requires { callers ≤ 64 }
     ensures { IfOk result (λ v. v.items ≡ Kept desk ∷ replicate callers Nothing) }
 {
-    let mut homes = Vec::with_capacity(alloc, callers + 1)?;
+    let mut homes = Vec::with_capacity(alloc, slot_at(callers))?;
     homes.push(Slot::Kept(desk))?;
     for _ in 0..callers {
         homes.push(Slot::Nothing)?;

@@ -1,7 +1,6 @@
 ghost use Rattle.std.specs.Prelude.{◌≡◌, length};
 ghost use Rattle.call_history.specs.History.{Begins};
-ghost use Rattle.request_slots.specs.Fronts.{IsOfCallers};
-ghost use Rattle.combiner.specs.Standing.{callers_of, IsIdle, Rests};
+ghost use Rattle.combiner.specs.Standing.{callers_of, IsIdle, Rests, IsOfCallers};
 ghost use Rattle.combiner.specs.Says.{seeing, longer_seen};
 
 use crate::caller::Caller;

@@ -6,6 +6,7 @@ ghost use Rattle.request_slots.specs.Passes.{strikes};
 ghost use Rattle.request_slots.specs.Views.{pass_in, passing, HasDesk};
 
 use crate::desk::Slot;
+use crate::places::{DONE, slot_at, word_at};
 use crate::plays::Tell;
 use crate::seat::{Seat, turn_times};
 use crate::slots::Slots;
@@ -36,8 +37,8 @@ impl Slots {
         let shared = &self.table.shared;
         let own = seat.own_slots();
         turn_times(&mut seat.seat, after);
-        shared.exchange(&mut seat.seat, i + 1, Slot::Told(outcome));
-        shared.store::<Tell>(&mut seat.seat, i + 2, 4);
+        shared.exchange(&mut seat.seat, slot_at(i), Slot::Told(outcome));
+        shared.store::<Tell>(&mut seat.seat, word_at(i), DONE);
         turn_times(&mut seat.seat, before);
         seat.seat.turn();
         turn_times(&mut seat.seat, own);

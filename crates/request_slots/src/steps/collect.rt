@@ -5,6 +5,7 @@ ghost use Rattle.request_slots.specs.Views.{left_calls, left_start, Collected, I
 ghost use Rattle.request_slots.specs.Seating.{callers_of};
 
 use crate::desk::Slot;
+use crate::places::{DONE, IDLE, slot_at, word_at};
 use crate::plays::Collect;
 use crate::seat::Seat;
 use crate::slots::Slots;
@@ -24,10 +25,11 @@ impl Slots {
     {
         let number = seat.number;
         let shared = &self.table.shared;
-        if shared.compare_exchange::<Collect>(&mut seat.seat, number + 2, 4, 1) != 4 {
+        if shared.compare_exchange::<Collect>(&mut seat.seat, word_at(number), DONE, IDLE) != DONE {
             return None;
         }
-        let Slot::Told(outcome) = shared.exchange(&mut seat.seat, number + 1, Slot::Nothing) else {
+        let Slot::Told(outcome) = shared.exchange(&mut seat.seat, slot_at(number), Slot::Nothing)
+        else {
             unreachable!()
         };
         seat.seat.turn();

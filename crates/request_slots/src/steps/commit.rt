@@ -5,6 +5,7 @@ ghost use Rattle.request_slots.specs.Views.{pass_in, committing, HasDesk};
 
 use crate::batch::{Batch, Commit};
 use crate::desk::Desk;
+use crate::places::LENGTH;
 use crate::seat::Seat;
 use crate::slots::Slots;
 use std::marker::Brand;
@@ -39,6 +40,6 @@ impl Slots {
         let length = desk.book.len() as u64;
         self.table
             .shared
-            .store::<Commit<B>>(&mut seat.seat, 1, length);
+            .store::<Commit<B>>(&mut seat.seat, LENGTH, length);
     }
 }

@@ -2,6 +2,7 @@ ghost use Rattle.std.specs.Prelude.{◌≡◌, ◌+◌, ◌<◌, None, IfSome, I
 ghost use Rattle.request_slots.specs.Views.{locking, Meets, ShowsLine, IsSpare};
 
 use crate::desk::{Desk, Slot};
+use crate::places::{DESK, FREE, LOCK};
 use crate::plays::Lock;
 use crate::seat::Seat;
 use crate::slots::Slots;
@@ -20,10 +21,10 @@ impl Slots {
     {
         let shared = &self.table.shared;
         let mark = seat.number as u64 + 1;
-        if shared.compare_exchange::<Lock>(&mut seat.seat, 0, 0, mark) != 0 {
+        if shared.compare_exchange::<Lock>(&mut seat.seat, LOCK, FREE, mark) != FREE {
             return None;
         }
-        let Slot::Kept(desk) = shared.exchange(&mut seat.seat, 0, Slot::Nothing) else {
+        let Slot::Kept(desk) = shared.exchange(&mut seat.seat, DESK, Slot::Nothing) else {
             unreachable!()
         };
         Some(desk)

@@ -4,6 +4,7 @@ ghost use Rattle.request_slots.specs.Fronts.{IsOfCallers};
 ghost use Rattle.request_slots.specs.Views.{looking, informed, adopting, Rests};
 ghost use Rattle.request_slots.specs.Seating.{callers_of};
 
+use crate::places::LENGTH;
 use crate::plays::{Adopt, Look, Show};
 use crate::seat::Seat;
 use crate::slots::Slots;
@@ -19,7 +20,7 @@ impl Slots {
         ensures rests { Rests seat.new.known }
         ensures no_strangers { IsOfCallers (callers_of seat.new.table_id) seat.new.known.seen }
     {
-        self.table.shared.load::<Look>(&mut seat.seat, 1)
+        self.table.shared.load::<Look>(&mut seat.seat, LENGTH)
     }
 
     /// The caller then sees the longer of what it and the other had seen, which begins with both. The other is as before.
@@ -36,6 +37,6 @@ impl Slots {
         let shared = &self.table.shared;
         let bare = shared.split_seat::<Show>(&mut other.seat);
         shared.join_seat::<Show>(&mut seat.seat, bare);
-        shared.load::<Adopt>(&mut seat.seat, 1);
+        shared.load::<Adopt>(&mut seat.seat, LENGTH);
     }
 }

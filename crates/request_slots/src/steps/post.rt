@@ -3,6 +3,7 @@ ghost use Rattle.request_slots.specs.declared.known.Phase.TheVariants.{Idle};
 ghost use Rattle.request_slots.specs.Views.{leaving};
 
 use crate::desk::Slot;
+use crate::places::{IDLE, POSTED, slot_at, word_at};
 use crate::plays::Post;
 use crate::seat::Seat;
 use crate::slots::Slots;
@@ -19,8 +20,8 @@ impl Slots {
     {
         let shared = &self.table.shared;
         let number = seat.number;
-        shared.exchange(&mut seat.seat, number + 1, Slot::Asked(call));
-        shared.compare_exchange::<Post>(&mut seat.seat, number + 2, 1, 2);
+        shared.exchange(&mut seat.seat, slot_at(number), Slot::Asked(call));
+        shared.compare_exchange::<Post>(&mut seat.seat, word_at(number), IDLE, POSTED);
         seat.idle = false;
     }
 }

@@ -3,6 +3,7 @@ ghost use Rattle.request_slots.specs.Passes.{is_in, takes_on, tries};
 ghost use Rattle.request_slots.specs.Views.{pass_in, passing, HasDesk};
 
 use crate::desk::Slot;
+use crate::places::{POSTED, TAKEN, slot_at, word_at};
 use crate::plays::{Skip, Take};
 use crate::seat::Seat;
 use crate::slots::Slots;
@@ -19,7 +20,7 @@ impl Slots {
         ensures passed { result ≡ true → seat.new.known ≡ passing seat.old.known (tries (pass_in seat.old.known) i) }
         ensures kept { result ≡ false → seat.new ≡ seat.old }
     {
-        self.table.shared.load::<Skip>(&mut seat.seat, i + 2) != 2
+        self.table.shared.load::<Skip>(&mut seat.seat, word_at(i)) != POSTED
     }
 
     /// The caller that has the desk tries the word of caller `i`, once in a pass. Nothing comes where nothing was posted.
@@ -35,10 +36,10 @@ impl Slots {
         ensures lost { IfNone result (seat.new.known ≡ passing seat.old.known (tries (pass_in seat.old.known) i)) }
     {
         let shared = &self.table.shared;
-        if shared.compare_exchange::<Take>(&mut seat.seat, i + 2, 2, 3) != 2 {
+        if shared.compare_exchange::<Take>(&mut seat.seat, word_at(i), POSTED, TAKEN) != POSTED {
             return None;
         }
-        let Slot::Asked(call) = shared.exchange(&mut seat.seat, i + 1, Slot::Nothing) else {
+        let Slot::Asked(call) = shared.exchange(&mut seat.seat, slot_at(i), Slot::Nothing) else {
             unreachable!()
         };
         Some(Request {

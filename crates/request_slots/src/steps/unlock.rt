@@ -4,6 +4,7 @@ ghost use Rattle.request_slots.specs.Views.{pass_in, unlocking, HasDesk, IsSpare
 ghost use Rattle.request_slots.specs.Seating.{callers_of};
 
 use crate::desk::{Desk, Slot};
+use crate::places::{DESK, FREE, LOCK};
 use crate::plays::Unlock;
 use crate::seat::Seat;
 use crate::slots::Slots;
@@ -23,7 +24,7 @@ impl Slots {
         ensures no_strangers { IsOfCallers (callers_of seat.new.table_id) seat.new.known.seen }
     {
         let shared = &self.table.shared;
-        shared.exchange(&mut seat.seat, 0, Slot::Kept(desk));
-        shared.store::<Unlock>(&mut seat.seat, 0, 0);
+        shared.exchange(&mut seat.seat, DESK, Slot::Kept(desk));
+        shared.store::<Unlock>(&mut seat.seat, LOCK, FREE);
     }
 }

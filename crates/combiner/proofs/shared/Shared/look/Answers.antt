@@ -1,7 +1,6 @@
 use Rattle.std.proofs.Common.{arith, ◌≡◌, ℕ, ◌<◌, ◌∙◌, sym, ap, subst, inl}
 use Rattle.request_slots.specs.declared.known.Known.{Known}
-use Rattle.request_slots.specs.Fronts.{IsOfCallers}
-use Rattle.combiner.specs.Standing.{Machine, Standing, standing, IsIdle, callers_of}
+use Rattle.combiner.specs.Standing.{Machine, Standing, standing, IsIdle, IsOfCallers, callers_of}
 use Rattle.combiner.proofs.Alone.{alone_counts}
 use Rattle.combiner.proofs.shared.Shared.look.Goals as goal
 

@@ -13,7 +13,7 @@ split_seat-seat-requires c =
 pub store-requires : goal.store-requires
 store-requires c =
     let near = c.requires.size.0 in
-    let slots : c.args.self.now.slots ≡ c.self.inside.table.shared.table_id.slots = ap (λ (z : TableId). z.slots) (sym c.self.view_is) in (
+    let slots : c.args.self.now.slots ≡ c.self.inside.table.shared.table_id.slots = ap (λ (z : TableId). z.slots) (sym c.self.view_is) in rw c.word_at.ensures (
       search rules,
       caller_word c.args.self.now _ c.args.number (sym c.self.view_is) c.requires.size.2 c.requires.size.0,
       arrives _ _ _ c.args.room c.args.number _ (c.split_seat-seat.ensures.4 ∙ ap (λ m. (next_caller m.0, [])) c.requires.maker) (subst (λ (n : ℕ). c.args.number + 1 < n) slots near),

@@ -18,7 +18,7 @@ load-requires c = let seated = c.seat.invariant in
     let known : known_of c.seat.inside.seat.me.0 ≡ c.args.seat.now.known = ap (λ (z : Seated). z.known) c.seat.view_is in
     let desk : HasDesk (known_of c.seat.inside.seat.me.0) = subst HasDesk (sym known) c.requires.desk in
     let slots : c.args.self.now.slots ≡ c.self.inside.table.shared.table_id.slots = ap (λ (z : TableId). z.slots) (sym c.self.view_is) in
-    let near = c.requires.caller in (
+    let near = c.requires.caller in rw c.word_at.ensures (
       same,
       caller_word c.seat.inside.seat.table_id _ c.args.i same seated.wide (search rules),
       skips_request _ _ _ c.args.i c.seat.inside.seat.me seated.is_caller desk (search rules) (ap (λ (k : Known). is_in (pass_in k).tried c.args.i) known ∙ c.requires.untried),
@@ -29,7 +29,7 @@ invariant_of-seat c = let seated = c.seat.invariant in
     let k : Known = known_of c.seat.inside.seat.me.0 in
     let known : k ≡ c.args.seat.now.known = ap (λ (z : Seated). z.known) c.seat.view_is in
     let desk : HasDesk k = subst HasDesk (sym known) c.requires.desk in
-    let then = c.load.ensures.2 c.args.i refl in
+    let then = c.load.ensures.2 c.args.i c.word_at.ensures in
     dite (ℕ_discrete c.load.result 2)
     (λ hit. let now = then.0 hit in
     reseated c.seat.inside.seat _ _ _ _ k seated c.load.ensures.0 (ap (λ m. m.0) now ∙ seated.is_caller) (ap (λ m. m.1) now ∙ seated.hand_is) refl seated.orderly seated.idle_is seated.front)
@@ -41,10 +41,10 @@ pub returns-clause-passed : goal.returns-clause-passed
 returns-clause-passed c passed =
     let known : known_of c.seat.inside.seat.me.0 ≡ c.args.seat.now.known = ap (λ (z : Seated). z.known) c.seat.view_is in
     let miss : c.load.result ≢ 2 = λ hit. cc (ap not (eq-eqb c.load.result 2 hit), passed) in
-    ap (λ m. known_of m.0) ((c.load.ensures.2 c.args.i refl).1 miss) ∙ ap (λ (k : Known). passing k (tries (pass_in k) c.args.i)) known
+    ap (λ m. known_of m.0) ((c.load.ensures.2 c.args.i c.word_at.ensures).1 miss) ∙ ap (λ (k : Known). passing k (tries (pass_in k) c.args.i)) known
 
 pub returns-clause-kept : goal.returns-clause-kept
 returns-clause-kept c kept =
     let hit : c.load.result ≡ 2 = dite (ℕ_discrete c.load.result 2) (λ is. is) (λ miss. cc (ap not (ne_eqb c.load.result 2 miss), kept)) in
-    let now = (c.load.ensures.2 c.args.i refl).0 hit in
+    let now = (c.load.ensures.2 c.args.i c.word_at.ensures).0 hit in
     (λ j. record { table_id = c.load.ensures.0 j; known = known_of ((now j).0) }) ∙ c.seat.view_is

@@ -23,7 +23,7 @@ exchange-requires c = let seated = c.seat.invariant in
     let k : Known = known_of c.seat.inside.seat.me.0 in
     let t = c.requires.taken in
     let there = ap (λ (z : Known). (pass_in z).taken) known ∙ t.3 in
-    (search rules, (Nothing, front_is _ _ _ (ap (λ m. m.1) c.turn_times.ensures.hand ∙ (ap (turned_times c.args.after) seated.hand_is ∙ hand_turned k c.args.i c.args.after t.0 t.1 t.2 desk there t.5))))
+    (search rules, (Nothing, rw c.slot_at.ensures (front_is _ _ _ (ap (λ m. m.1) c.turn_times.ensures.hand ∙ (ap (turned_times c.args.after) seated.hand_is ∙ hand_turned k c.args.i c.args.after t.0 t.1 t.2 desk there t.5)))))
 
 pub store-requires : goal.store-requires
 store-requires c = let seated = c.seat.invariant in
@@ -35,7 +35,7 @@ store-requires c = let seated = c.seat.invariant in
     let t = c.requires.taken in
     let asks = middle_asks t.0 t.1 c.args.i t.2 in
     let before : Sat = (c.seat.inside.seat.me.0, turned_times c.args.after c.seat.inside.seat.me.1) in
-    let put = c.exchange.ensures.3 ∙ ap (λ (m : Sat). let z : Sat = (m.0, (c.args.i + 1, Told c.args.outcome) ∷ rest m.1) in z) c.turn_times.ensures.hand in (
+    let put = rw c.slot_at.ensures at c.exchange.ensures.3 in let put = put ∙ ap (λ (m : Sat). let z : Sat = (m.0, (c.args.i + 1, Told c.args.outcome) ∷ rest m.1) in z) c.turn_times.ensures.hand in rw c.word_at.ensures (
       search rules,
       caller_word c.seat.inside.seat.table_id _ c.args.i same seated.wide (search rules),
       tells _ _ _ c.args.i asks.0 before _ c.args.outcome put seated.is_caller desk (search rules)
@@ -52,7 +52,7 @@ invariant_of-seat c = let seated = c.seat.invariant in
     let there = ap (λ (z : Known). (pass_in z).taken) known ∙ t.3 in
     let own = c.own_slots-own.ensures ∙ ap (λ (z : Known). length (own_hand z.number z.phase)) (sym known) in
     let n : ℕ = c.own_slots-own.result in
-    let now = c.store.ensures.2 c.args.i refl in
+    let now = c.store.ensures.2 c.args.i c.word_at.ensures in
     reseated c.seat.inside.seat _ _ _ _ (passing k (strikes (pass_in k) c.args.i)) seated (search rules)
     (ap (λ m. m.0) c.turn_times-3.ensures.hand ∙ (ap (λ m. m.0) c.turn.ensures.2 ∙ (ap (λ m. m.0) c.turn_times-2.ensures.hand ∙ (ap (λ m. m.0) now
     ∙ ap (λ (v : View). Caller (passing (known_of v) (strikes (pass_in (known_of v)) c.args.i))) (ap (λ m. m.0) c.exchange.ensures.3 ∙ ap (λ m. m.0) c.turn_times.ensures.hand)))))
@@ -67,7 +67,7 @@ invariant_of-seat c = let seated = c.seat.invariant in
 pub returns-clause-known : goal.returns-clause-known
 returns-clause-known c =
     let known : known_of c.seat.inside.seat.me.0 ≡ c.args.seat.now.known = ap (λ (z : Seated). z.known) c.seat.view_is in
-    let now = c.store.ensures.2 c.args.i refl in
+    let now = c.store.ensures.2 c.args.i c.word_at.ensures in
     ap (λ m. known_of m.0) c.turn_times-3.ensures.hand ∙ (ap (λ m. known_of m.0) c.turn.ensures.2 ∙ (ap (λ m. known_of m.0) c.turn_times-2.ensures.hand ∙ (ap (λ m. known_of m.0) now
     ∙ (ap (λ m. passing (known_of m.0) (strikes (pass_in (known_of m.0)) c.args.i)) c.exchange.ensures.3 ∙ (ap (λ m. passing (known_of m.0) (strikes (pass_in (known_of m.0)) c.args.i)) c.turn_times.ensures.hand
     ∙ ap (λ (z : Known). passing z (strikes (pass_in z) c.args.i)) known)))))

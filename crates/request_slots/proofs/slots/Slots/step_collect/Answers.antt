@@ -16,21 +16,21 @@ pub compare_exchange-requires : goal.compare_exchange-requires
 compare_exchange-requires c = let seated = c.seat.invariant in
     let same : c.seat.inside.seat.table_id ≡ c.self.inside.table.shared.table_id = ap (λ (z : Seated). z.table_id) c.seat.view_is ∙ (c.requires.place ∙ sym c.self.view_is) in
     let known : known_of c.seat.inside.seat.me.0 ≡ c.args.seat.now.known = ap (λ (z : Seated). z.known) c.seat.view_is in
-    (same, caller_word _ _ _ same seated.wide seated.inside, collects _ _ _ _ c.seat.inside.seat.me seated.is_caller seated.number_is (subst IsLeft (sym known) c.requires.left))
+    rw c.word_at.ensures (same, caller_word _ _ _ same seated.wide seated.inside, collects _ _ _ _ c.seat.inside.seat.me seated.is_caller seated.number_is (subst IsLeft (sym known) c.requires.left))
 
 pub exchange-requires : goal.exchange-requires
 exchange-requires c = let seated = c.seat.invariant in
-    let t = c.compare_exchange.ensures.2.0 c.if-compare_exchange-ne4.false in
-    (search rules, (Told t.0, front_is _ _ _ (t.3 ∙ ap (λ (z : ℕ). (z + 1, Told t.0) ∷ c.seat.inside.seat.me.1) seated.number_is)))
+    let t = c.compare_exchange.ensures.2.0 c.if-compare_exchange-ne-DONE.false in
+    (search rules, (Told t.0, rw c.slot_at.ensures (front_is _ _ _ (t.3 ∙ ap (λ (z : ℕ). (z + 1, Told t.0) ∷ c.seat.inside.seat.me.1) seated.number_is))))
 
 pub invariant_of-seat-2 : goal.invariant_of-seat-2
 invariant_of-seat-2 c = let seated = c.seat.invariant in
     let known : known_of c.seat.inside.seat.me.0 ≡ c.args.seat.now.known = ap (λ (z : Seated). z.known) c.seat.view_is in
     let k : Known = known_of c.seat.inside.seat.me.0 in
-    let t = c.compare_exchange.ensures.2.0 c.if-compare_exchange-ne4.false in
+    let t = c.compare_exchange.ensures.2.0 c.if-compare_exchange-ne-DONE.false in
     let kept = collected_keeps k (left_calls k.phase) (left_start k.phase) (fate_of t.0) t.1 t.4 in
     let same : c.seat.inside.seat.table_id ≡ c.self.inside.table.shared.table_id = ap (λ (z : Seated). z.table_id) c.seat.view_is ∙ (c.requires.place ∙ sym c.self.view_is) in
-    let put = c.exchange.ensures.3 in
+    let put = rw c.slot_at.ensures at c.exchange.ensures.3 in
     let now = c.turn.ensures.2 in
     reseated c.seat.inside.seat _ _ _ _ t.1 seated (search rules) (ap (λ m. m.0) now ∙ (ap (λ m. m.0) put ∙ t.2))
     (ap (λ m. m.1) now ∙ (ap (λ m. turned m.1) put ∙ (ap (λ h. rest h ++ (c.seat.inside.number + 1, Nothing) ∷ []) t.3 ∙ (ap (λ h. h ++ (c.seat.inside.number + 1, Nothing) ∷ []) seated.hand_is

@@ -14,5 +14,5 @@ compare_exchange-requires c = let seated = c.seat.invariant in
 
 pub exchange-requires : goal.exchange-requires
 exchange-requires c =
-    let t = c.compare_exchange.ensures.2.0 c.if-compare_exchange-ne0.false in
+    let t = c.compare_exchange.ensures.2.0 c.if-compare_exchange-ne-FREE.false in
     (search rules, (Kept t.0, front_is _ _ _ t.4))

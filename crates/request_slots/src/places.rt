@@ -1,0 +1,40 @@
+//! Which word and which slot is whose, and what the words say.
+
+ghost use Rattle.std.specs.Prelude.{◌≡◌, ◌<◌, ◌^◌};
+ghost use Rattle.request_slots.specs.Stages.{word_of, slot_of};
+
+/// The word of the lock: `FREE`, or 1 more than the number of the caller that has the desk.
+pub(crate) const LOCK: usize = 0;
+
+pub(crate) const FREE: u64 = 0;
+/// The word of the length of the history.
+pub(crate) const LENGTH: usize = 1;
+/// The slot of the desk.
+pub(crate) const DESK: usize = 0;
+
+/// What the word of a caller says: it is not made yet,
+pub(crate) const UNMADE: u64 = 0;
+/// nothing was asked,
+pub(crate) const IDLE: u64 = 1;
+/// a call lies in its slot,
+pub(crate) const POSTED: u64 = 2;
+/// a pass took it,
+pub(crate) const TAKEN: u64 = 3;
+/// or what became of it lies there.
+pub(crate) const DONE: u64 = 4;
+
+/// The word of a caller.
+pub(crate) fn word_at(caller: usize) -> usize
+    requires { caller < 2 ^ 32 }
+    ensures { result ≡ word_of caller }
+{
+    caller + 2
+}
+
+/// The slot of a caller: what it asks, and then what it is told.
+pub(crate) fn slot_at(caller: usize) -> usize
+    requires { caller < 2 ^ 32 }
+    ensures { result ≡ slot_of caller }
+{
+    caller + 1
+}
