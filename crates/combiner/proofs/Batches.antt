@@ -1,19 +1,40 @@
 -- Requests that are run one after the other.
--- `running_asks` says that the next request is one that may be run, and `running_next` what stands once it has run.
-use Rattle.std.proofs.Common.{◌≡◌, ℕ, ◌<◌, cond, List, [], ◌∷◌, ◌++◌, append_assoc, Option, Some, None, refl, sym, ap, ◌∙◌, subst, arith, length-append, ne_eqb}
+-- `run_answers` and `run_refuses` are one that is run; `running_asks` says that the next request is one that may be run, and `running_next` what stands once it has run.
+use Rattle.std.proofs.Common.{◌≡◌, ℕ, ◌<◌, cond, List, [], ◌∷◌, ◌++◌, length, append_assoc, Option, Some, None, refl, sym, ap, ◌∙◌, subst, arith, length-append, ne_eqb}
 use Rattle.std.specs.Prelude.{reverse}
 use Rattle.std.specs.List.{AllByRecursion}
 use Rattle.std.proofs.lemmas.List.{reverse-append}
 use Rattle.cvl_text.specs.declared.call.Call.{Call}
+use Rattle.cvl_text.specs.declared.reply.Reply.{Reply}
+use Rattle.cvl_text.specs.Answers.{answer_of}
+use Rattle.call_history.specs.declared.entry.Entry.{Entry}
 use Rattle.call_history.specs.declared.request.Request.{Request}
 use Rattle.call_history.specs.declared.request.Outcome.{Outcome}
+use Rattle.call_history.specs.declared.request.Outcome.TheVariants.{Answered, Refused}
+use Rattle.call_history.specs.History.{entry, reply_after}
 use Rattle.call_history.specs.Callers.{caller_limit}
 use Rattle.call_history.specs.Books.{BookState}
-use Rattle.call_history.specs.Fits.{request_by, Fits}
+use Rattle.call_history.specs.Fits.{request, request_by, Fits}
+use Rattle.call_history.proofs.Serving.{fits_answered, fits_refused}
 use Rattle.request_slots.specs.Seating.{IsDistinct}
-use Rattle.request_slots.specs.WholePass.{IsRun}
 use Rattle.request_slots.proofs.RequestLists.{request_by-middle}
-use Rattle.combiner.specs.Passes.{IsBatch, Running}
+use Rattle.combiner.specs.Passes.{IsRun, IsBatch, Running}
+
+-- a call that was answered, and one that came back
+pub run_answers : (old new : BookState) (k ticket : ℕ) (call : Call) (place : ℕ) (reply : Reply) → new.room ≡ old.room → new.history ≡ old.history ++ entry k ticket call ∷ [] → place ≡ length old.history
+    → answer_of reply ≡ reply_after old.room old.history call → IsRun old new k call (Answered place reply)
+run_answers old new k ticket call place reply room_is grown at replies = record {
+  room_is = room_is;
+  fits = λ line rs os same fresh f. subst (λ (z : List Entry × ℕ). Fits old.room line (rs ++ request k call ∷ []) z.0 (os ++ Answered z.1 reply ∷ [])) (λ i. (sym grown i, sym at i))
+      (fits_answered old.room line old.history rs os k ticket call reply same fresh replies f);
+}
+
+pub run_refuses : (old new : BookState) (k : ℕ) (call back : Call) → new.room ≡ old.room → new.history ≡ old.history → back ≡ call → IsRun old new k call (Refused back)
+run_refuses old new k call back room_is unchanged same_call = record {
+  room_is = room_is;
+  fits = λ line rs os same fresh f. subst (λ (z : List Entry × Call). Fits old.room line (rs ++ request k call ∷ []) z.0 (os ++ Refused z.1 ∷ [])) (λ i. (sym unchanged i, sym same_call i))
+      (fits_refused old.room line old.history rs os k call same fresh f);
+}
 
 distinct_front : (xs ys : List Request) (r : Request) → IsDistinct (xs ++ r ∷ ys) → request_by r.caller xs ≡ None
 distinct_front [] ys r d = refl

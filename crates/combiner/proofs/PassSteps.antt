@@ -1,9 +1,11 @@
 -- Each step of a pass leads to the next.
 -- `taking_misses` and `taking_hits` are the tries, `taking_batch` says that what was taken may be run, and `pass_serves` what the
 -- whole pass comes to.
-use Rattle.std.proofs.Common.{◌≡◌, ℕ, ◌+◌, ◌<◌, ◌≤◌, ◌&&◌, ◌||◌, Bool, true, false, List, [], ◌∷◌, ◌++◌, map, length, take, set, lt_of_not-le, None, refl, sym, ap, ◌∙◌, subst, arith, length-append}
+use Rattle.std.proofs.Common.{◌≡◌, ◌≢◌, ℕ, zero, suc, ◌+◌, ◌<◌, ◌≤◌, ◌==◌, eq-eqb, ne_eqb, ◌&&◌, ◌||◌, Bool, true, false, List, [], ◌∷◌, ◌++◌, map, length, take, set, lt_of_not-le, None, refl, sym, ap, ◌∙◌, subst, arith, length-append}
 use Rattle.std.specs.List.{AllByRecursion}
+use mathlib.Core.Logic.{dite}
 use mathlib.Core.List.{map-append}
+use native.Mathlib.Decide.{ℕ_discrete}
 use Rattle.call_history.specs.declared.entry.Entry.{Entry}
 use Rattle.call_history.specs.declared.request.Request.{Request}
 use Rattle.call_history.specs.declared.request.Outcome.{Outcome}
@@ -15,10 +17,32 @@ use Rattle.call_history.proofs.Serving.{request_by-push_else}
 use Rattle.request_slots.specs.declared.known.Known.{Known}
 use Rattle.request_slots.specs.Passes.{is_in, tries, takes_on}
 use Rattle.request_slots.specs.Views.{pass_in, passing, locking, committing, unlocking, left_in}
-use Rattle.request_slots.specs.WholePass.{Telling, asker}
 use Rattle.request_slots.proofs.RequestLists.{distinct-push, request_by-middle}
-use Rattle.request_slots.proofs.WholePass.{is_in-more, take-set-push, tried_next}
-use Rattle.combiner.specs.Passes.{Taking, IsBatch, HasServed}
+use Rattle.combiner.specs.Passes.{Taking, Telling, IsBatch, HasServed, asker}
+
+is_in-last : (xs : List ℕ) (i : ℕ) → is_in (xs ++ i ∷ []) i ≡ true
+is_in-last [] i = ap (λ b. b || false) (eq-eqb i i refl)
+is_in-last (x ∷ xs) i = go (x == i) (is_in-last xs i)
+  where
+    go : (b : Bool) → is_in (xs ++ i ∷ []) i ≡ true → (b || is_in (xs ++ i ∷ []) i) ≡ true
+    go true e = refl
+    go false e = e
+
+is_in-more : (xs : List ℕ) (i k : ℕ) → k ≢ i → is_in (xs ++ i ∷ []) k ≡ is_in xs k
+is_in-more [] i k other = ap (λ b. b || false) (ne_eqb i k (λ e. other (sym e)))
+is_in-more (x ∷ xs) i k other = ap (λ b. (x == k) || b) (is_in-more xs i k other)
+
+take-set-push : (xs : List ℕ) (n x : ℕ) → n < length xs → take (n + 1) (set xs n x) ≡ take n xs ++ x ∷ []
+take-set-push [] n x lt = absurd (omega arith)
+take-set-push (y ∷ xs) zero x lt = refl
+take-set-push (y ∷ xs) (suc n) x lt = ap (λ (k : ℕ). take k (y ∷ set xs n x)) more ∙ ap (λ l. y ∷ l) (take-set-push xs n x (omega arith))
+  where
+    more : suc n + 1 ≡ suc (n + 1)
+    more = omega arith
+
+tried_next : (tried : List ℕ) (i : ℕ) → ((k : ℕ) → k < i → is_in tried k ≡ true) → (k : ℕ) → k < i + 1 → is_in (tried ++ i ∷ []) k ≡ true
+tried_next tried i below k lt = dite (ℕ_discrete k i) (λ same. subst (λ (z : ℕ). is_in (tried ++ i ∷ []) z ≡ true) (sym same) (is_in-last tried i))
+    (λ other. is_in-more tried i k other ∙ below k (omega arith))
 
 -- a word with no request
 pub taking_misses : (before now now' : Known) (i : ℕ) (requests : List Request) (numbers : List ℕ) → now' ≡ passing now (tries (pass_in now) i)

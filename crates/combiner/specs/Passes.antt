@@ -1,19 +1,23 @@
 -- A pass: each word is tried, what was taken is run, and after the commit each caller is told.
--- `Taking` is a pass up to the last try, `IsBatch` what may be run in it, and `HasServed` what a whole pass comes to.
+-- `Taking` is a pass up to the last try, `IsBatch` what may be run in it, `IsRun` one call that is run, `Telling` a pass behind its
+-- commit, and `HasServed` what a whole pass comes to.
 use Rattle.std.specs.Prelude.{◌≡◌, ℕ, ◌<◌, ◌≤◌, true, false, ◌||◌, List, [], ◌∷◌, ◌++◌, length, map, take, reverse, None}
 use Rattle.std.specs.List.{AllByRecursion}
+use Rattle.cvl_text.specs.declared.call.Call.{Call}
 use Rattle.call_history.specs.declared.entry.Entry.{Entry}
 use Rattle.call_history.specs.declared.request.Request.{Request}
 use Rattle.call_history.specs.declared.request.Outcome.{Outcome}
 use Rattle.call_history.specs.History.{Begins}
 use Rattle.call_history.specs.Callers.{caller_limit}
 use Rattle.call_history.specs.Books.{BookState}
-use Rattle.call_history.specs.Fits.{request_by, Fits}
+use Rattle.call_history.specs.Fits.{request, request_by, Fits}
 use Rattle.request_slots.specs.declared.known.Known.{Known}
 use Rattle.request_slots.specs.Passes.{is_in}
 use Rattle.request_slots.specs.Views.{pass_in, passing, left_in, HasDesk}
 use Rattle.request_slots.specs.Seating.{IsDistinct}
-use Rattle.request_slots.specs.WholePass.{asker}
+
+abbrev pub asker : Request → ℕ
+asker r = r.caller
 
 -- the words below i were tried, and these requests were taken, of the callers with these numbers
 pub record Taking (before now : Known) (i : ℕ) (requests : List Request) (numbers : List ℕ) : Type 0 where
@@ -29,6 +33,12 @@ pub record Taking (before now : Known) (i : ℕ) (requests : List Request) (numb
   pub few : length requests ≤ i
   pub numbered : take (length requests) numbers ≡ map asker requests
 
+-- behind each batch that led to the book's history, one more request of another caller fits, with this outcome
+pub record IsRun (old new : BookState) (k : ℕ) (call : Call) (outcome : Outcome) : Type 0 where
+  pub room_is : new.room ≡ old.room
+  pub fits : (line : List Entry) (rs : List Request) (os : List Outcome) → length os ≡ length rs → request_by k rs ≡ None
+      → Fits old.room line rs old.history os → Fits old.room line (rs ++ request k call ∷ []) new.history (os ++ outcome ∷ [])
+
 -- requests of distinct callers
 pub record IsBatch (requests : List Request) : Type 0 where
   pub distinct : IsDistinct requests
@@ -41,6 +51,23 @@ pub record Running (requests : List Request) (opened : BookState) (rest : List R
   pub fits : Fits opened.room opened.history done book.history outcomes
   pub paired : length outcomes ≡ length done
   pub room_is : book.room ≡ opened.room
+
+-- the outcomes that are left are those of the requests that are left, of all that the commit had
+pub record Telling (callers : ℕ) (before now : Known) (outcomes : List Outcome) (numbers : List ℕ) (count : ℕ) : Type 0 where
+  pub has : HasDesk now
+  pub now_is : now ≡ passing before (pass_in now)
+  pub line_is : (pass_in now).line ≡ (pass_in before).line
+  pub tried_is : (pass_in now).tried ≡ (pass_in before).tried
+  pub committed : (pass_in now).committed ≡ true
+  pub asked_later : List Request
+  pub told_later : List Outcome
+  pub asked_is : (pass_in now).asked ≡ (pass_in now).taken ++ asked_later
+  pub outcomes_are : (pass_in now).outcomes ≡ outcomes ++ told_later
+  pub untaken : (k : ℕ) → callers ≤ k → request_by k (pass_in now).taken ≡ None
+  pub distinct : IsDistinct (pass_in now).taken
+  pub paired : length outcomes ≡ length (pass_in now).taken
+  pub numbered : take count numbers ≡ map asker (pass_in now).taken
+  pub counted : count ≡ length (pass_in now).taken
 
 -- a caller that served so many calls in a pass has seen this line, and what it left has an outcome
 abbrev pub past : Known → List Entry → ℕ → Known

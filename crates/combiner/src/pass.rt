@@ -4,9 +4,8 @@ ghost use Rattle.std.specs.Prelude.{◌≡◌, ◌+◌, ◌<◌, ◌≤◌, [], 
 ghost use Rattle.call_history.specs.Fits.{Fits};
 ghost use Rattle.request_slots.specs.Passes.{fresh_pass};
 ghost use Rattle.request_slots.specs.Views.{pass_in, Meets, Rests};
-ghost use Rattle.request_slots.specs.WholePass.{IsRun, Telling};
 ghost use Rattle.combiner.specs.Standing.{callers_of, IsOfCallers};
-ghost use Rattle.combiner.specs.Passes.{Taking, IsBatch, HasServed};
+ghost use Rattle.combiner.specs.Passes.{Taking, IsBatch, IsRun, Telling, HasServed};
 
 use call_history::{Book, Outcome, Request};
 use request_slots::{Seat, Slots};

@@ -3,5 +3,6 @@
 mod alone;
 mod asking;
 mod at_once;
+mod no_wait;
 mod pair;
 mod table;

@@ -13,5 +13,3 @@ pub mod Taking
 pub mod Committing
 pub mod Telling
 pub mod Making
-pub mod WholePass
-pub mod Hearing

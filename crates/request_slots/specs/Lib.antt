@@ -9,4 +9,3 @@ pub mod Lawful
 pub mod Views
 pub mod Events
 pub mod Seating
-pub mod WholePass

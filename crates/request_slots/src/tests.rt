@@ -1,6 +1,3 @@
-//! The steps with ample memory, by one thread and by several.
+//! What a step tells one thread, where no pass is made. Whole passes are made by the crate above, and tried there.
 
-mod caller;
 mod once;
-mod pass;
-mod threads;

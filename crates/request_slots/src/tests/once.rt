@@ -1,20 +1,33 @@
-//! Each step once, and what it tells.
+//! Seats at a new table, and a desk that is lost.
 
-ghost use Rattle.std.specs.Prelude.{◌≡◌, IfSome};
+ghost use Rattle.std.specs.Prelude.{◌≡◌, ◌+◌, ◌<◌, ◌≤◌, None, All, IfSome};
+ghost use Rattle.vector_memory.specs.States.{IsLawfulRoom};
 ghost use Rattle.request_slots.specs.Seating.{IsNewAt};
 
-use super::caller::{ask, hear, table};
-use super::pass::pass;
-use crate::{Seat, Slots};
-use call_history::{Book, Outcome};
-use cvl_text::{Call, Reply};
+use crate::{Desk, Seat, Slots};
+use call_history::Book;
+use cvl_text::Call;
 use std::alloc::Global;
 use std::process::Abort;
 use std::test::Fail;
 
+/// A table for so many callers, whose history is of this room.
+fn table(alloc: Global, callers: usize, room: u64) -> Option<(Slots, Vec<Seat>)>
+    requires count { (0 < callers) × (callers ≤ 64) }
+    requires room { IsLawfulRoom room }
+    ensures size { IfSome result (λ t. t.0.slots ≡ callers + 1) }
+    ensures each { IfSome result (λ t. All (IsNewAt t.0) t.1.items) }
+{
+    let desk = Desk {
+        book: Book::new(alloc, room).ok()?,
+        requests: Vec::with_capacity(alloc, callers).ok()?,
+        outcomes: Vec::with_capacity(alloc, callers).ok()?,
+    };
+    Slots::new(alloc, callers, Box::new(alloc, desk).ok()?).ok()
+}
+
 /// A table with two callers.
 fn pair(alloc: Global) -> Option<(Slots, Seat, Seat)>
-    ensures size { IfSome result (λ m. m.0.slots ≡ 3) }
     ensures first { IfSome result (λ m. IsNewAt m.0 m.1) }
     ensures second { IfSome result (λ m. IsNewAt m.0 m.2) }
 {
@@ -24,51 +37,35 @@ fn pair(alloc: Global) -> Option<(Slots, Seat, Seat)>
     Some((slots, first, second))
 }
 
-/// Whether an outcome is this reply, at this place.
-fn is_told(outcome: Option<Outcome>, place: u64, number: Option<i64>) -> bool {
-    let Some(Outcome::Answered { place: at, reply }) = outcome else {
-        return false;
-    };
-    let found = match reply {
-        Reply::Int(n) => Some(n),
-        _ => None,
-    };
-    at == place && found == number
-}
-
-/// Whether the entry at a place is of this caller.
-fn is_entry_of(book: &Book, place: usize, caller: u64) -> bool {
-    place < book.len() && book.entry(place).caller == caller
+/// Posts a call. It has no outcome yet.
+fn waits(slots: &Slots, seat: &mut Seat, call: Call) -> bool
+    requires new { IsNewAt slots.now seat.old }
+    ensures place { seat.new.table_id ≡ slots.now }
+    ensures no_desk { seat.new.known.pass ≡ None }
+{
+    slots.step_post(seat, call);
+    slots.step_collect(seat).is_none()
 }
 
 #[test]
-fn another_serves(rt: HostRuntime) -> Result<(), Fail> {
+fn nobody_serves(rt: HostRuntime) -> Result<(), Fail> {
     let (slots, mut first, mut second) = pair(rt.alloc()).ok_or("memory")?;
     assert!(rt; first.number() == 0 && second.number() == 1 && first.is_idle());
-    assert!(rt; hear(&slots, &mut first).is_none());
-    ask(&slots, &mut first, Call::read(rt.alloc(), b"a = z 3 4")?);
-    assert!(rt; !first.is_idle() && hear(&slots, &mut first).is_none());
-    ask(&slots, &mut second, Call::read(rt.alloc(), b"add_ruz a")?);
-    assert!(rt; pass(&rt, rt.alloc(), &slots, &mut second, 2) == Some(2));
-    assert!(rt; is_told(hear(&slots, &mut first), 0, None));
-    assert!(rt; is_told(hear(&slots, &mut second), 1, Some(7)));
-    assert!(rt; first.is_idle() && pass(&rt, rt.alloc(), &slots, &mut first, 2) == Some(0));
+    assert!(rt; waits(&slots, &mut first, Call::read(rt.alloc(), b"a = z 3 4")?));
+    assert!(rt; !first.is_idle() && second.is_idle());
     slots.step_meet(&mut second, &mut first);
-    assert!(rt; slots.step_look(&mut second) == 2);
+    assert!(rt; slots.step_look(&mut second) == 0);
     let desk = slots.close(second).ok_or("another has the desk")?;
-    assert!(rt;
-        desk.book.len() == 2 && is_entry_of(&desk.book, 0, 0) && is_entry_of(&desk.book, 1, 1)
-    );
+    assert!(rt; desk.book.is_empty());
     Ok(())
 }
 
 /// The desk of a seat that is dropped is lost to the others.
 #[test]
 fn the_desk_is_dropped(rt: HostRuntime) -> Result<(), Fail> {
-    let (slots, mut first, mut second) = pair(rt.alloc()).ok_or("memory")?;
+    let (slots, mut first, second) = pair(rt.alloc()).ok_or("memory")?;
     assert!(rt; slots.step_lock(&mut first).is_some());
     drop(first);
-    assert!(rt; pass(&rt, rt.alloc(), &slots, &mut second, 2).is_none());
     assert!(rt; slots.close(second).is_none());
     Ok(())
 }

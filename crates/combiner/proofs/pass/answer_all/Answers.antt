@@ -2,8 +2,8 @@ use Rattle.std.proofs.Common.{rules, arith, ◌≡◌, ℕ, ◌+◌, ◌<◌, �
 use Rattle.call_history.specs.Fits.{request, outcome_by}
 use Rattle.request_slots.specs.Passes.{strikes}
 use Rattle.request_slots.specs.Views.{pass_in, passing}
-use Rattle.request_slots.specs.WholePass.{Telling}
-use Rattle.request_slots.proofs.WholePass.{telling_last, telling_next}
+use Rattle.combiner.specs.Passes.{Telling}
+use Rattle.combiner.proofs.Tellings.{telling_last, telling_next}
 use Rattle.combiner.proofs.pass.answer_all.Goals as goal
 
 pub step_answer-requires-clause-caller : goal.step_answer-requires-clause-caller

@@ -1,5 +1,5 @@
 use Rattle.std.proofs.Common.{◌≡◌, ◌≤◌, length, vec_capacity}
-use Rattle.request_slots.specs.WholePass.{Telling}
+use Rattle.combiner.specs.Passes.{Telling}
 use Rattle.combiner.proofs.pass.answer_all.Given as goal
 
 abbrev pub invariant-loop-outcome : goal.invariant-loop-outcome

@@ -1,4 +1,4 @@
-use Rattle.request_slots.proofs.WholePass.{run_answers, run_refuses}
+use Rattle.combiner.proofs.Batches.{run_answers, run_refuses}
 use Rattle.combiner.proofs.pass.run.Goals as goal
 
 pub returns-in-Ok : goal.returns-in-Ok

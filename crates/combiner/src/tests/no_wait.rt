@@ -1,11 +1,9 @@
-//! Threads that ask and serve one another at once, and the history that they leave.
+//! Threads that ask and serve one another at once and never wait, and the history that they leave.
 
-ghost use Rattle.std.specs.Prelude.{◌≡◌, None, All};
+ghost use Rattle.std.specs.Prelude.{◌≡◌, All};
 
-use super::caller::{ask, hear, table};
-use super::pass::pass;
-use crate::{Seat, Slots};
-use call_history::{Book, Entry, Outcome};
+use crate::{Caller, Polled, Shared};
+use call_history::{Book, Entry};
 use cvl_text::{Call, Reply};
 use std::alloc::Global;
 use std::test::Fail;
@@ -13,7 +11,7 @@ use std::thread;
 use std::thread::Threads;
 use vector_memory::Name;
 
-/// The callers of the table, each in a thread of its own.
+/// The callers of the machine, each in a thread of its own.
 const CALLERS: usize = 4;
 
 /// What a caller was told of one of its calls: its place, and the number that it asked for, if there was one.
@@ -36,9 +34,9 @@ fn call_of(alloc: Global, round: u32) -> Option<Call> {
     })
 }
 
-/// What an outcome tells.
-fn told_by(outcome: Outcome) -> Option<Told> {
-    let Outcome::Answered { place, reply } = outcome else {
+/// What a caller is told, if it is told anything.
+fn told_by(polled: Polled) -> Option<Told> {
+    let Polled::Answered { place, reply } = polled else {
         return None;
     };
     let number = match reply {
@@ -48,88 +46,72 @@ fn told_by(outcome: Outcome) -> Option<Told> {
     Some(Told { place, number })
 }
 
-/// The rounds of one caller, and what it was told.
+/// The rounds of one caller, and what it was told. In a round in which its last call is still left it asks nothing.
 fn work(
     rt: &(impl Threads + Sync),
     alloc: Global,
-    slots: &Slots,
-    seat: &mut Seat,
+    shared: &Shared,
+    caller: &mut Caller,
     rounds: u32,
 ) -> Vec<Told>
-    requires place { seat.old.table_id ≡ slots.now }
-    requires size { slots.now.slots ≡ 5 }
-    requires no_desk { seat.old.known.pass ≡ None }
-    ensures place { seat.new.table_id ≡ slots.now }
-    ensures no_desk { seat.new.known.pass ≡ None }
+    requires { caller.old.machine ≡ shared.now }
+    ensures { caller.new.machine ≡ shared.now }
 {
     let mut told = Vec::new(alloc);
     for round in 0..rounds {
         if let Some(call) = call_of(alloc, round) {
-            ask(slots, seat, call);
+            let _left = shared.post(caller, call).is_ok();
         }
-        let _served = pass(rt, alloc, slots, seat, CALLERS);
-        let _length = slots.step_look(seat);
-        note(slots, seat, &mut told);
+        let _served = shared.combine(rt, alloc, caller);
+        let _length = shared.look(caller);
+        if let Some(news) = told_by(shared.poll(caller)) {
+            let _noted = told.push(news);
+        }
     }
     told
-}
-
-/// Notes what became of the call that was left.
-fn note(slots: &Slots, seat: &mut Seat, told: &mut Vec<Told>)
-    requires place { seat.old.table_id ≡ slots.now }
-    requires no_desk { seat.old.known.pass ≡ None }
-    ensures place { seat.new.table_id ≡ slots.now }
-    ensures no_desk { seat.new.known.pass ≡ None }
-{
-    if let Some(outcome) = hear(slots, seat)
-        && let Some(news) = told_by(outcome)
-    {
-        let _noted = told.push(news);
-    }
 }
 
 /// One caller meets the others and closes. The book, and of each caller its number and what it was told.
 fn close_all(
     alloc: Global,
-    slots: Slots,
-    mut done: Vec<(Seat, Vec<Told>)>,
+    shared: Shared,
+    mut done: Vec<(Caller, Vec<Told>)>,
 ) -> Option<(Book, Vec<(usize, Vec<Told>)>)>
-    requires { All (λ r. (r.0.table_id ≡ slots) × (r.0.known.pass ≡ None)) done.items }
+    requires { All (λ r. r.0.machine ≡ shared) done.items }
 {
     let mut all = Vec::new(alloc);
     let (mut last, told) = done.pop()?;
     all.push((last.number(), told)).ok()?;
-    for (seat, told) in done {
-        let mut seat = seat;
-        slots.step_meet(&mut last, &mut seat);
-        all.push((seat.number(), told)).ok()?;
+    for (caller, told) in done {
+        let mut caller = caller;
+        shared.meet(&mut caller, &mut last);
+        all.push((caller.number(), told)).ok()?;
     }
-    let desk = Box::into_inner(slots.close(last)?);
-    Some((desk.book, all))
+    Some((shared.close(last).ok()?, all))
 }
 
-/// Each thread owns one seat, and hands it back.
+/// Each thread owns one caller, and hands it back.
 fn work_at_once<R: Threads + Sync>(
     rt: &R,
     alloc: Global,
     rounds: u32,
 ) -> Option<(Book, Vec<(usize, Vec<Told>)>)> {
-    let (table, seats) = table(alloc, CALLERS, 100)?;
-    let slots = &table;
+    let (machine, callers) = Shared::new(alloc, CALLERS as u64, 100).ok()?;
+    let shared = &machine;
     let done = thread::map_vec(
         rt,
-        seats,
-        &|seat: Seat| -> (Seat, Vec<Told>)
-            requires { (seat.table_id ≡ slots.now) × (slots.now.slots ≡ 5) × (seat.known.pass ≡ None) }
-            ensures { (result.0.table_id ≡ slots.entry.now) × (result.0.known.pass ≡ None) }
+        callers,
+        &|caller: Caller| -> (Caller, Vec<Told>)
+            requires { caller.machine ≡ shared.now }
+            ensures { result.0.machine ≡ shared.entry.now }
         {
-            let mut seat = seat;
-            let told = work(rt, alloc, slots, &mut seat, rounds);
-            (seat, told)
+            let mut caller = caller;
+            let told = work(rt, alloc, shared, &mut caller, rounds);
+            (caller, told)
         },
     )
     .ok()?;
-    close_all(alloc, table, done)
+    close_all(alloc, machine, done)
 }
 
 /// The number that stands under `n` after an entry, if one stood there before.

@@ -1,5 +1,5 @@
 use Rattle.std.proofs.Common.{◌≤◌}
-use Rattle.request_slots.proofs.tests.threads.is_as_told.Given as goal
+use Rattle.combiner.proofs.tests.no_wait.is_as_told.Given as goal
 
 abbrev pub invariant-loop-place : goal.invariant-loop-place
 invariant-loop-place l = l.heard ≤ l.place
