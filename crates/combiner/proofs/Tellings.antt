@@ -7,18 +7,18 @@ use Rattle.call_history.specs.declared.request.Request.{Request}
 use Rattle.call_history.specs.declared.request.Outcome.{Outcome}
 use Rattle.call_history.specs.Fits.{request, request_by, outcome_by}
 use Rattle.request_slots.specs.declared.known.Known.{Known}
-use Rattle.request_slots.specs.Passes.{without, strikes}
+use Rattle.request_slots.specs.Passes.{all_but, strikes}
 use Rattle.request_slots.specs.Views.{pass_in, passing}
 use Rattle.request_slots.specs.Seating.{IsDistinct}
 use Rattle.combiner.specs.Passes.{Telling, asker}
-use Rattle.request_slots.proofs.RequestLists.{request_by-middle, without_middle, middle_asks}
+use Rattle.request_slots.proofs.RequestLists.{request_by-middle, all_but_middle, middle_asks}
 
 request_by-front : (k i : ℕ) (rs : List Request) (call : Call) → request_by k (rs ++ request i call ∷ []) ≡ None → (k ≢ i) × (request_by k rs ≡ None)
 request_by-front k i rs call e = let m = request_by-middle k i rs [] call e in (m.0, subst (λ l. request_by k l ≡ None) (append-nil rs) m.1)
 
 -- without the last of distinct requests the others are left
-without_last : (rs : List Request) (i : ℕ) (call : Call) → IsDistinct (rs ++ request i call ∷ []) → (without i (rs ++ request i call ∷ []) ≡ rs) × IsDistinct rs
-without_last rs i call d = let m = without_middle rs [] i call d in (m.0 ∙ append-nil rs, subst IsDistinct (append-nil rs) m.1)
+all_but_last : (rs : List Request) (i : ℕ) (call : Call) → IsDistinct (rs ++ request i call ∷ []) → (all_but i (rs ++ request i call ∷ []) ≡ rs) × IsDistinct rs
+all_but_last rs i call d = let m = all_but_middle rs [] i call d in (m.0 ∙ append-nil rs, subst IsDistinct (append-nil rs) m.1)
 
 take_init : (ns xs : List ℕ) (x n : ℕ) → take (suc n) ns ≡ xs ++ x ∷ [] → length xs ≡ n → (take n ns ≡ xs) × (get_or ns n 0 ≡ x)
 take_init [] [] x n e le = absurd (cc e)
@@ -104,12 +104,12 @@ pub telling_next : (callers : ℕ) (before now now' : Known) (outcomes os : List
     → (next : Next callers now n numbers o) → now' ≡ passing now (strikes (pass_in now) next.number) → Telling callers before now outcomes numbers count → Telling callers before now' os numbers n
 telling_next callers before now now' outcomes os o numbers count n is_next is next told t =
     let r : Request = request next.number next.call in
-    let left = without_last next.earlier next.number next.call (subst IsDistinct next.last t.distinct) in
-    let taken : without next.number (pass_in now).taken ≡ next.earlier = ap (without next.number) next.last ∙ left.0 in
+    let left = all_but_last next.earlier next.number next.call (subst IsDistinct next.last t.distinct) in
+    let taken : all_but next.number (pass_in now).taken ≡ next.earlier = ap (all_but next.number) next.last ∙ left.0 in
     let sizes : length (pass_in now).taken ≡ length next.earlier + 1 = ap length next.last ∙ length-append next.earlier (r ∷ []) in
     let os_size : length outcomes ≡ length os + 1 = ap length is ∙ length-append os (o ∷ []) in
     let paired = t.paired in let counted = t.counted in
-    let short : length (without next.number (pass_in now).taken) ≡ length next.earlier = ap length taken in
+    let short : length (all_but next.number (pass_in now).taken) ≡ length next.earlier = ap length taken in
     subst (λ (k : Known). Telling callers before k os numbers n) (sym told) record {
       has = refl;
       now_is = ap (λ (k : Known). passing k (strikes (pass_in now) next.number)) t.now_is;

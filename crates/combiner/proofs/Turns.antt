@@ -23,7 +23,7 @@ use Rattle.combiner.specs.declared.answers.Combined.{Combined}
 use Rattle.combiner.specs.declared.answers.Combined.TheVariants as combine
 use Rattle.combiner.specs.Standing.{Standing, standing, IsIdle, HasLeft, IsOneCall}
 use Rattle.combiner.specs.Cases.{IfAnswered, IfBack, OnBusy, OnServed, IfServed}
-use Rattle.combiner.specs.Says.{leaving, meeting, serving, KeepsNotes, Grows, IsAnswered, IsAnsweredAtLast, IsWhatWasLeft, IsGivenBack, MeetsAnother}
+use Rattle.combiner.specs.Says.{leaving, meeting, serving, KeepsNotes, Continues, IsAnswered, IsAnsweredAtLast, IsWhatWasLeft, IsGivenBack, MeetsAnother}
 
 pub not_idle : (left idle : Bool) → idle ≡ not left → idle ≡ false → left ≡ true
 not_idle true idle is e = refl
@@ -72,14 +72,14 @@ pub collected_says : (s s' : Seated) (o : Outcome) → IsOneCall s.known.phase �
 collected_says s s' (Answered place reply) one left told at = (collected_answers s s' place reply one left told at, tt)
 collected_says s s' (Refused call) one left told at = (tt, collected_gives_back s s' call one left told at)
 
-grows_on : (a b c : List ℕ) → Grows a b → Grows b c → Grows a c
-grows_on a b c p q = (p.0 ++ q.0, q.1 ∙ (ap (λ l. l ++ q.0) p.1 ∙ append_assoc a p.0 q.0))
+continues_on : (a b c : List ℕ) → Continues a b → Continues b c → Continues a c
+continues_on a b c p q = (p.0 ++ q.0, q.1 ∙ (ap (λ l. l ++ q.0) p.1 ∙ append_assoc a p.0 q.0))
 
 pub notes_kept : (c d : Standing) → d.held ≡ c.held → d.met ≡ c.met → d.passes ≡ c.passes → KeepsNotes c d
 notes_kept c d held met passes = (λ had. held ∙ had, ([], met ∙ sym (append-nil c.met)), ([], passes ∙ sym (append-nil c.passes)))
 
 pub notes_follow : (c d e : Standing) → KeepsNotes c d → KeepsNotes d e → KeepsNotes c e
-notes_follow c d e p q = (λ had. q.0 (p.0 had), grows_on c.met d.met e.met p.1 q.1, grows_on c.passes d.passes e.passes p.2 q.2)
+notes_follow c d e p q = (λ had. q.0 (p.0 had), continues_on c.met d.met e.met p.1 q.1, continues_on c.passes d.passes e.passes p.2 q.2)
 
 notes_met : (c : Standing) (h : ℕ) → KeepsNotes c (meeting c h)
 notes_met c h = (λ had. had, (h ∷ [], refl), ([], sym (append-nil c.passes)))

@@ -82,12 +82,12 @@ pub record IsAnsweredTo (call : Call) (c d : Standing) (place : ℕ) (reply : Re
   pub record_is : d.own ≡ c.own ++ call ∷ []
 
 -- a list that stays, and may get longer
-abbrev pub Grows : List ℕ → List ℕ → Type 0
-Grows old new = (more : List ℕ) × (new ≡ old ++ more)
+abbrev pub Continues : List ℕ → List ℕ → Type 0
+Continues old new = (more : List ℕ) × (new ≡ old ++ more)
 
 -- what was noted stays noted
 abbrev pub KeepsNotes : Standing → Standing → Type 0
-KeepsNotes c d = (c.held ≡ true → d.held ≡ true) × Grows c.met d.met × Grows c.passes d.passes
+KeepsNotes c d = (c.held ≡ true → d.held ≡ true) × Continues c.met d.met × Continues c.passes d.passes
 
 -- this is another caller of the machine
 abbrev pub IsAnother : Standing → ℕ → Type 0

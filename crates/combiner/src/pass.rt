@@ -3,7 +3,7 @@
 ghost use Rattle.std.specs.Prelude.{◌≡◌, ◌+◌, ◌<◌, ◌≤◌, [], length, None, Some, IfSome, IfNone, vec_len, vec_capacity};
 ghost use Rattle.call_history.specs.Fits.{Fits};
 ghost use Rattle.request_slots.specs.Passes.{fresh_pass};
-ghost use Rattle.request_slots.specs.Views.{pass_in, Meets, Rests};
+ghost use Rattle.request_slots.specs.Views.{pass_in, Meets, IsAtRest};
 ghost use Rattle.combiner.specs.Standing.{callers_of, IsOfCallers};
 ghost use Rattle.combiner.specs.Passes.{Taking, IsBatch, IsRun, Telling, HasServed};
 
@@ -114,7 +114,7 @@ pub(crate) fn pass(
     ensures place { seat.new.table_id ≡ slots.now }
     ensures served { IfSome result (HasServed seat.old.known seat.new.known) }
     ensures few { IfSome result (λ count. count ≤ callers) }
-    ensures rests { IfSome result (λ _. Rests seat.new.known) }
+    ensures rests { IfSome result (λ _. IsAtRest seat.new.known) }
     ensures no_strangers { IfSome result (λ _. IsOfCallers (callers_of seat.new.table_id) seat.new.known.seen) }
     ensures busy { IfNone result (Meets slots.now.slots seat.old.known seat.new.known) }
 {

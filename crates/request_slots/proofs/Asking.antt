@@ -27,7 +27,7 @@ use Rattle.request_slots.specs.Locks.{HolderSits}
 use Rattle.request_slots.specs.Requests.{StageHolds, FateHolds, request_at}
 use Rattle.request_slots.specs.Phases.{PhaseHolds}
 use Rattle.request_slots.specs.Lawful.{CallerKnows, Knows, Lawful}
-use Rattle.request_slots.specs.Views.{known_of, leaving, left_calls, left_start, longer, Collected}
+use Rattle.request_slots.specs.Views.{known_of, posting, left_calls, left_start, longer, Collected}
 use Rattle.request_slots.specs.Events.{Sat, calls_in_hand, Posts, Collects}
 use Rattle.request_slots.proofs.Stations.{put, put_here, put_rises, put_abides, put_seat, notes_rise, others_know}
 use Rattle.request_slots.proofs.Holders.{holder_follows}
@@ -55,8 +55,8 @@ module _ (room : ℕ) (s : State Slot View) (r : Lawful room s) (id : ℕ) (c : 
   idle_word at_rest = let phase = subst (PhaseHolds c.number c.seen c.own here) at_rest knows.phase in (r.each_caller c.number inside).word_is ∙ ap code phase.stage_is
 
   -- the station of a caller that leaves these calls
-  abbrev posting : List Call → Station
-  posting calls = record { stage = posted; seat = here.seat; own = here.own; calls = calls; start = c.seen; held = here.held }
+  abbrev posted_station : List Call → Station
+  posted_station calls = record { stage = posted; seat = here.seat; own = here.own; calls = calls; start = c.seen; held = here.held }
 
   -- the seats other than the caller's, after a step that moves only its own station
   abbrev others_stay : (st : Station) → ((r.station c.number).held ≡ true → st.held ≡ true)
@@ -64,21 +64,21 @@ module _ (room : ℕ) (s : State Slot View) (r : Lawful room s) (id : ℕ) (c : 
   others_stay st up = others_know room r.n r.made r.line r.line r.lock r.lock r.station (put r.station c.number st) c.number id knows.seat_is (begins_self r.line) (λ i other. refl)
       (put_abides r.station c.number st) (put_rises r.station c.number st up)
 
-  post_keeps : (call : Call) → c.phase ≡ Idle → c.pass ≡ None → Lawful room (moved s c.number 2 (some (Asked call)) id (Caller (leaving c (call ∷ []))))
+  post_keeps : (call : Call) → c.phase ≡ Idle → c.pass ≡ None → Lawful room (moved s c.number 2 (some (Asked call)) id (Caller (posting c (call ∷ []))))
   post_keeps call at_rest no_pass =
-      let st : Station = posting (call ∷ []) in
+      let st : Station = posted_station (call ∷ []) in
       let held = r.each_caller c.number inside in
       let phase = subst (PhaseHolds c.number c.seen c.own here) at_rest knows.phase in
       let stage = subst (StageHolds room r.line (part_of r.lock c.number) (get_elem? s.homes (c.number + 1)) c.number here) phase.stage_is held.stage_holds in
       let rises = put_rises r.station c.number st (λ e. e) in
-      caller_step room s r c.number 2 (some (Asked call)) st r.lock id (Caller c) (Caller (leaving c (call ∷ []))) inside knows.number_made there refl refl (λ i other. refl)
+      caller_step room s r c.number 2 (some (Asked call)) st r.lock id (Caller c) (Caller (posting c (call ∷ []))) inside knows.number_made there refl refl (λ i other. refl)
       record {
         word_is = refl;
         request_is = held.request_is ∙ ap (λ (z : Stage). request_at z here.calls) phase.stage_is;
         stage_holds = record { call = call; home_is = refl; calls_are = refl; begins = knows.fronts.seen_begins; own_is = stage.own_is };
       }
       r.lock_holds
-      (subst (λ (z : Station). CallerKnows room r.n r.made r.line (pass_of r.lock c.number) z (λ m. (put r.station c.number st m).held) id (leaving c (call ∷ []))) (sym (put_here r.station c.number st)) record {
+      (subst (λ (z : Station). CallerKnows room r.n r.made r.line (pass_of r.lock c.number) z (λ m. (put r.station c.number st m).held) id (posting c (call ∷ []))) (sym (put_here r.station c.number st)) record {
         number_made = knows.number_made;
         inside = knows.inside;
         seat_is = knows.seat_is;
@@ -91,7 +91,7 @@ module _ (room : ℕ) (s : State Slot View) (r : Lawful room s) (id : ℕ) (c : 
         notes = notes_rise r.n c.number c.held here.held here.held c.met c.pass (λ m. (r.station m).held) (λ m. (put r.station c.number st m).held) refl rises knows.notes;
       })
       (others_stay st (λ e. e))
-      (holder_follows s.views r.station (put r.station c.number st) r.lock id c (leaving c (call ∷ [])) there refl (put_seat r.station c.number st refl) knows.seat_is knows.pass_is r.holder_sits)
+      (holder_follows s.views r.station (put r.station c.number st) r.lock id c (posting c (call ∷ [])) there refl (put_seat r.station c.number st refl) knows.seat_is knows.pass_is r.holder_sits)
 
   -- what the caller knows once it has its outcome
   abbrev collected : List Entry → List Call → Known
@@ -158,10 +158,10 @@ posts_at room slots id me call is at_rest no_pass hand s r deep at small =
     let c : Known = known_of me.0 in let i : ℕ = c.number + 2 in let x : ℕ = get_or s.words i 0 in
     let there : get_elem? s.views id ≡ some (Caller c) = at ∙ ap (λ (v : View). some v) is in
     let found : x ≡ 1 = idle_word room s r id c there at_rest in (
-      Caller (leaving c (calls_in_hand me.1)),
+      Caller (posting c (calls_in_hand me.1)),
       gives,
       tt,
-      subst (λ (z : Bool × List (ℕ × Slot)). Lawful room (stepped s i (either z.0 2 x) id z.1 (Caller (leaving c (calls_in_hand z.1))) gives))
+      subst (λ (z : Bool × List (ℕ × Slot)). Lawful room (stepped s i (either z.0 2 x) id z.1 (Caller (posting c (calls_in_hand z.1))) gives))
           (λ j. (sym (eq-eqb x 1 found) j, sym hand j)) (post_keeps room s r id c there call at_rest no_pass),
       (found, refl, refl),
     )

@@ -15,7 +15,7 @@ use Rattle.request_slots.specs.declared.desk.Slot.{Slot}
 use Rattle.request_slots.specs.declared.known.View.{View}
 use Rattle.request_slots.specs.Stages.{Stage, unmade, idle, posted, taken, done, Station, Home}
 use Rattle.request_slots.specs.Passes.{Lock, Part, part_of}
-use Rattle.request_slots.specs.Locks.{LockHolds, HolderSits, caller_of}
+use Rattle.request_slots.specs.Locks.{LockHolds, HolderSits, sitter_of}
 use Rattle.request_slots.specs.Requests.{StageHolds, request_at, CallerHolds}
 use Rattle.request_slots.specs.Lawful.{Knows, IsNotMade, Lawful}
 use Rattle.request_slots.proofs.Stations.{put, put_here, put_else, put_seat}
@@ -73,7 +73,7 @@ abbrev pub moved : State Slot View → ℕ → ℕ → maybe.Option Slot → ℕ
 moved s i x y me w = record { words = set s.words (i + 2) x; homes = set s.homes (i + 1) y; views = set s.views me w }
 
 pub caller_step : (room : ℕ) (s : State Slot View) (r : Lawful room s) (i x : ℕ) (y : maybe.Option Slot) (st : Station) (lock : Lock) (me : ℕ) (v w : View) → i < r.n → i < r.made
-    → get_elem? s.views me ≡ some v → caller_of w ≡ caller_of v → st.seat ≡ (r.station i).seat
+    → get_elem? s.views me ≡ some v → sitter_of w ≡ sitter_of v → st.seat ≡ (r.station i).seat
     → ((k : ℕ) → k ≢ i → part_of lock k ≡ part_of r.lock k) → CallerHolds room r.line (part_of lock i) x (some y) i st
     → LockHolds room r.n r.line (get_or s.words 0 0) (get_elem? s.homes 0) lock
     → Knows room r.n r.made r.line lock (put r.station i st) me w
@@ -104,7 +104,7 @@ caller_step room s r i x y st lock me v w inside made there same seat parts here
 abbrev pub seen_by : State Slot View → ℕ → ℕ → View → State Slot View
 seen_by s i me w = record { words = set s.words i (get_or s.words i 0); homes = s.homes; views = set s.views me w }
 
-pub view_change : (room : ℕ) (s : State Slot View) (r : Lawful room s) (me : ℕ) (v w : View) → get_elem? s.views me ≡ some v → caller_of w ≡ caller_of v → Knows room r.n r.made r.line r.lock r.station me w → HolderSits (set s.views me w) r.station r.lock
+pub view_change : (room : ℕ) (s : State Slot View) (r : Lawful room s) (me : ℕ) (v w : View) → get_elem? s.views me ≡ some v → sitter_of w ≡ sitter_of v → Knows room r.n r.made r.line r.lock r.station me w → HolderSits (set s.views me w) r.station r.lock
     → Lawful room record { words = s.words; homes = s.homes; views = set s.views me w }
 view_change room s r me v w there same mine holder =
     let seats = seats_after (Knows room r.n r.made r.line r.lock r.station) (Knows room r.n r.made r.line r.lock r.station) s.views me w mine (λ j other v h. h) r.each_seat in
@@ -126,7 +126,7 @@ view_change room s r me v w there same mine holder =
       each_seat = seats;
     }
 
-pub view_step : (room : ℕ) (s : State Slot View) (r : Lawful room s) (i me : ℕ) (v w : View) → get_elem? s.views me ≡ some v → caller_of w ≡ caller_of v → Knows room r.n r.made r.line r.lock r.station me w → HolderSits (set s.views me w) r.station r.lock → Lawful room (seen_by s i me w)
+pub view_step : (room : ℕ) (s : State Slot View) (r : Lawful room s) (i me : ℕ) (v w : View) → get_elem? s.views me ≡ some v → sitter_of w ≡ sitter_of v → Knows room r.n r.made r.line r.lock r.station me w → HolderSits (set s.views me w) r.station r.lock → Lawful room (seen_by s i me w)
 view_step room s r i me v w there same mine holder =
     subst (λ (ws : List ℕ). Lawful room record { words = ws; homes = s.homes; views = set s.views me w }) (sym (set-get_or s.words i 0)) (view_change room s r me v w there same mine holder)
 
@@ -135,7 +135,7 @@ abbrev pub handed : State Slot View → ℕ → maybe.Option Slot → ℕ → Vi
 handed s x y me w = record { words = set s.words 0 x; homes = set s.homes 0 y; views = set s.views me w }
 
 pub lock_step : (room : ℕ) (s : State Slot View) (r : Lawful room s) (x : ℕ) (y : maybe.Option Slot) (station : ℕ → Station) (lock : Lock) (me : ℕ) (v w : View)
-    → get_elem? s.views me ≡ some v → caller_of w ≡ caller_of v → ((k : ℕ) → (station k).seat ≡ (r.station k).seat) → ((k : ℕ) → r.made ≤ k → IsNotMade (station k)) → LockHolds room r.n r.line x (some y) lock
+    → get_elem? s.views me ≡ some v → sitter_of w ≡ sitter_of v → ((k : ℕ) → (station k).seat ≡ (r.station k).seat) → ((k : ℕ) → r.made ≤ k → IsNotMade (station k)) → LockHolds room r.n r.line x (some y) lock
     → ((k : ℕ) → k < r.n → CallerHolds room r.line (part_of lock k) (get_or s.words (k + 2) 0) (get_elem? s.homes (k + 1)) k (station k))
     → Knows room r.n r.made r.line lock station me w
     → ((j : ℕ) → j ≢ me → (v : View) → Knows room r.n r.made r.line r.lock r.station j v → Knows room r.n r.made r.line lock station j v)

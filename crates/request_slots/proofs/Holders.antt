@@ -17,7 +17,7 @@ use Rattle.request_slots.specs.declared.known.View.{View}
 use Rattle.request_slots.specs.declared.known.View.TheVariants.{Maker, Newcomer, Caller, Bare, Spent}
 use Rattle.request_slots.specs.Stages.{Station}
 use Rattle.request_slots.specs.Passes.{Lock, free, held_by, pass_of}
-use Rattle.request_slots.specs.Locks.{HolderSits, SitApart, MadeSit, caller_of}
+use Rattle.request_slots.specs.Locks.{HolderSits, SitApart, MadeSit, sitter_of}
 use Rattle.request_slots.specs.Lawful.{Knows, Lawful}
 
 -- the caller whose view has a pass is the one that has the desk
@@ -71,7 +71,7 @@ holder_more views w station free holder = tt
 holder_more views w station (held_by h p) holder = (holder.0, at_longer views (w ∷ []) (station h).seat (Caller holder.0) holder.1, holder.2, holder.3)
 
 -- the views of the callers that were made, after a step of a seat that stays its caller's
-pub made_sit_after : (views : List View) (station station' : ℕ → Station) (made me : ℕ) (v w : View) → get_elem? views me ≡ some v → caller_of w ≡ caller_of v
+pub made_sit_after : (views : List View) (station station' : ℕ → Station) (made me : ℕ) (v w : View) → get_elem? views me ≡ some v → sitter_of w ≡ sitter_of v
     → ((k : ℕ) → (station' k).seat ≡ (station k).seat) → MadeSit views station made → MadeSit (set views me w) station' made
 made_sit_after views station station' made me v w there same seats sit k lt =
     let old = sit k lt in
@@ -79,12 +79,12 @@ made_sit_after views station station' made me v w there same seats sit k lt =
     (λ mine. (
       w,
       ap (get_elem? (set views me w)) (seats k ∙ mine) ∙ set_here views me w (at_holds views me v there),
-      same ∙ (ap caller_of (some-injective v old.0 (sym there ∙ (ap (get_elem? views) (sym mine) ∙ old.1))) ∙ old.2),
+      same ∙ (ap sitter_of (some-injective v old.0 (sym there ∙ (ap (get_elem? views) (sym mine) ∙ old.1))) ∙ old.2),
     ))
     (λ other. (old.0, ap (get_elem? (set views me w)) (seats k) ∙ (set_else views me (station k).seat w other ∙ old.1), old.2))
 
 -- a view of a caller stands where the caller's station says
-seat_of_caller : (room n made : ℕ) (line : List Entry) (lock : Lock) (station : ℕ → Station) (j k : ℕ) (v : View) → Knows room n made line lock station j v → caller_of v ≡ Some k → (station k).seat ≡ j
+seat_of_caller : (room n made : ℕ) (line : List Entry) (lock : Lock) (station : ℕ → Station) (j k : ℕ) (v : View) → Knows room n made line lock station j v → sitter_of v ≡ Some k → (station k).seat ≡ j
 seat_of_caller room n made line lock station j k (Maker q m) h e = absurd (cc e)
 seat_of_caller room n made line lock station j k (Newcomer q i) h e = let same : i ≡ k = cc e in ap (λ (z : ℕ). (station z).seat) (sym same) ∙ h.seat_is
 seat_of_caller room n made line lock station j k (Caller c) h e = let same : c.number ≡ k = cc e in ap (λ (z : ℕ). (station z).seat) (sym same) ∙ h.seat_is

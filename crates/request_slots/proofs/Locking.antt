@@ -28,7 +28,7 @@ use Rattle.request_slots.specs.Locks.{DeskRests, LockHolds}
 use Rattle.request_slots.specs.Requests.{CallerHolds}
 use Rattle.request_slots.specs.Phases.{PhaseHolds}
 use Rattle.request_slots.specs.Lawful.{IsNotMade, CallerKnows, Knows, Lawful}
-use Rattle.request_slots.specs.Views.{known_of, left_calls, locking, meeting, OwnCallsIn, ShowsLine}
+use Rattle.request_slots.specs.Views.{known_of, left_calls, locking, finding, OwnCallsIn, ShowsLine}
 use Rattle.request_slots.specs.Events.{Sat, Locks}
 use Rattle.request_slots.proofs.Stations.{put, put_here, put_else, put_seat, put_rises, put_abides, others_know}
 use Rattle.request_slots.proofs.Holders.{pass_elsewhere, pass_there, holder_begins, holder_follows, holder_has_held}
@@ -108,7 +108,7 @@ module _ (room : ℕ) (s : State Slot View) (r : Lawful room s) (id : ℕ) (c : 
       (holder_begins s.views (put r.station c.number st) id (Caller c) (locking c d.book.history) p there (ap (λ (z : Station). z.seat) (put_here r.station c.number st) ∙ knows.seat_is) refl)
 
   -- another caller was found at the lock
-  meet_knows : (h : ℕ) → h ≢ c.number → h < r.n → (r.station h).held ≡ true → Knows room r.n r.made r.line r.lock r.station id (Caller (meeting c h))
+  meet_knows : (h : ℕ) → h ≢ c.number → h < r.n → (r.station h).held ≡ true → Knows room r.n r.made r.line r.lock r.station id (Caller (finding c h))
   meet_knows h other near had = record {
     number_made = knows.number_made;
     inside = knows.inside;
@@ -169,11 +169,11 @@ locks room slots id k me is number no_pass s r deep at small =
         let h = subst (LockHolds room r.n r.line x (get_elem? s.homes 0)) e r.lock_holds in
         let other : q ≢ c.number = λ same. let t : Some p ≡ None = sym (pass_there q p) ∙ (ap (pass_of (held_by q p)) same ∙ (ap (λ l. pass_of l c.number) (sym e) ∙ (sym knows.pass_is ∙ no_pass))) in absurd (cc t) in
         let miss : x ≢ 0 = λ e. let word = h.word_is in omega arith in (
-          Caller (meeting c q),
+          Caller (finding c q),
           keeps,
           tt,
-          subst (λ b. Lawful room (stepped s 0 (either b (k + 1) x) id me.1 (Caller (meeting c q)) keeps)) (sym (ne_eqb x 0 miss))
-              (view_step room s r 0 id (Caller c) (Caller (meeting c q)) (at ∙ ap (λ (v : View). some v) is) refl (meet_knows room s r id c (at ∙ ap (λ (v : View). some v) is) q other h.inside (holder_has_held room s r q p e))
-              (holder_follows s.views r.station r.station r.lock id c (meeting c q) (at ∙ ap (λ (v : View). some v) is) refl (λ _. refl) knows.seat_is knows.pass_is r.holder_sits)),
-          ((λ hit. absurd (miss hit)), λ _. (meeting c q, (q, other, (let near = h.inside in let sized : slots ≡ r.n + 1 = sym deep ∙ r.deep in omega arith), refl), refl)),
+          subst (λ b. Lawful room (stepped s 0 (either b (k + 1) x) id me.1 (Caller (finding c q)) keeps)) (sym (ne_eqb x 0 miss))
+              (view_step room s r 0 id (Caller c) (Caller (finding c q)) (at ∙ ap (λ (v : View). some v) is) refl (meet_knows room s r id c (at ∙ ap (λ (v : View). some v) is) q other h.inside (holder_has_held room s r q p e))
+              (holder_follows s.views r.station r.station r.lock id c (finding c q) (at ∙ ap (λ (v : View). some v) is) refl (λ _. refl) knows.seat_is knows.pass_is r.holder_sits)),
+          ((λ hit. absurd (miss hit)), λ _. (finding c q, (q, other, (let near = h.inside in let sized : slots ≡ r.n + 1 = sym deep ∙ r.deep in omega arith), refl), refl)),
         )

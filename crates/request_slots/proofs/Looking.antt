@@ -23,12 +23,12 @@ use Rattle.request_slots.specs.declared.known.View.{View}
 use Rattle.request_slots.specs.declared.known.View.TheVariants.{Caller, Bare, Spent}
 use Rattle.request_slots.specs.Stages.{Stage, unmade, idle, posted, taken, done, is_left, Station, Home}
 use Rattle.request_slots.specs.Passes.{Part, part_of}
-use Rattle.request_slots.specs.Locks.{HolderSits, caller_of}
+use Rattle.request_slots.specs.Locks.{HolderSits, sitter_of}
 use Rattle.request_slots.specs.Requests.{FateHolds, ServedHolds, StageHolds, CallerHolds}
 use Rattle.request_slots.specs.Fronts.{IsOfCallers}
 use Rattle.request_slots.specs.Phases.{PhaseHolds}
 use Rattle.request_slots.specs.Lawful.{CallerKnows, Knows, Lawful}
-use Rattle.request_slots.specs.Views.{known_of, seen_in, looking, informed, adopting, longer, Rests, FrontHolds}
+use Rattle.request_slots.specs.Views.{known_of, seen_in, looking, informed, adopting, longer, IsAtRest, FrontHolds}
 use Rattle.request_slots.specs.Events.{Sat, Looks, Adopts}
 use Rattle.request_slots.proofs.Holders.{holder_follows, holder_apart, holder_more, seats_apart}
 use Rattle.request_slots.proofs.Carrying.{seats_after, view_change, view_step}
@@ -111,7 +111,7 @@ phase_between k xs ys zs own s (Left calls start) p q low high = record {
     go (inr a) (inr b) = inr (calls_between k xs ys zs (own ++ calls) p q a b)
 
 -- an idle caller has its record in what it has seen, and is not settled
-rests_of : {room n made : ℕ} {line : List Entry} {pass : Option Pass} {mine : Station} {has_held : ℕ → Bool} {seat : ℕ} {c : Known} → CallerKnows room n made line pass mine has_held seat c → Rests c
+rests_of : {room n made : ℕ} {line : List Entry} {pass : Option Pass} {mine : Station} {has_held : ℕ → Bool} {seat : ℕ} {c : Known} → CallerKnows room n made line pass mine has_held seat c → IsAtRest c
 rests_of {mine} {c} knows at_rest =
     let phase = subst (PhaseHolds c.number c.seen c.own mine) at_rest knows.phase in
     (phase.own_is, not_true c.settled (λ e. cc (knows.settled.done e, phase.stage_is)))
@@ -204,7 +204,7 @@ sees room id other v w is bare s r at apart there =
     let s' : State Slot View = record { words = s.words; homes = s.homes; views = set s.views id both } in
     let held = holder_follows s.views r.station r.station r.lock id (known_of v) (informed (known_of v) (seen_in w)) (at ∙ ap (λ (u : View). some u) is) refl (λ _. refl) knows.seat_is knows.pass_is r.holder_sits in
     let mid = view_change room s r id (Caller (known_of v)) both (at ∙ ap (λ (u : View). some u) is) refl (told_knows room s r id (known_of v) (seen_in w) knows saw) held in
-    view_change room s' mid other w Spent there (sym (ap caller_of bare)) tt
+    view_change room s' mid other w Spent there (sym (ap sitter_of bare)) tt
     (holder_apart s'.views mid.station mid.station mid.lock other w Spent there (λ c e. let t : Bare (seen_in w) ≡ Caller c = sym bare ∙ e in absurd (cc t)) (λ _ _ _. refl) mid.holder_sits)
 
 pub adopts : (room slots id : ℕ) (me : Sat) → me.0 ≡ Caller (known_of me.0) → Allows (Lawful room) slots id me 1 (λ x. x) (Adopts (step slots 1 0 0 none) me)

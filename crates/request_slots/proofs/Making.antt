@@ -21,7 +21,7 @@ use Rattle.request_slots.specs.Passes.{Lock, free, held_by, pass_of, Part, part_
 use Rattle.request_slots.specs.Locks.{MadeSit}
 use Rattle.request_slots.specs.Requests.{StageHolds, request_at, CallerHolds}
 use Rattle.request_slots.specs.Lawful.{IsNotMade, NewcomerKnows, CallerKnows, Knows, Lawful}
-use Rattle.request_slots.specs.Views.{newcomer, next_maker, next_caller, IsSpare}
+use Rattle.request_slots.specs.Views.{new_known, next_maker, next_caller, IsSpare}
 use Rattle.request_slots.specs.Events.{Sat, Arrives}
 use Rattle.request_slots.proofs.Stations.{put, put_here, put_else, put_rises, put_abides, put_seat, caller_abides, others_know}
 use Rattle.request_slots.proofs.Holders.{pass_elsewhere, holder_apart, holder_more, holder_has_held, seats_apart, made_sit_after}
@@ -219,13 +219,13 @@ arrives key slots id room k me is near = subst (λ (m : Sat). Allows (Lawful key
         let stage = subst (StageHolds key r.line (part_of r.lock k) (get_elem? s.homes (k + 1)) k there) know.stage_is caller.stage_holds in
         let st : Station = record { stage = idle; seat = there.seat; own = there.own; calls = there.calls; start = there.start; held = there.held } in
         let rises = put_rises r.station k st (λ e. e) in (
-          Caller (newcomer room k),
+          Caller (new_known room k),
           takes (k + 1) Nothing,
           stage.home_is,
-          caller_step key s r k 1 none st r.lock id (Newcomer room k) (Caller (newcomer room k)) inside know.number_made at refl refl (λ i other. refl)
+          caller_step key s r k 1 none st r.lock id (Newcomer room k) (Caller (new_known room k)) inside know.number_made at refl refl (λ i other. refl)
               record { word_is = refl; request_is = caller.request_is ∙ ap (λ (z : Stage). request_at z there.calls) know.stage_is; stage_holds = record { home_is = refl; own_is = stage.no_calls ∙ sym stage.own_is } }
               r.lock_holds
-              (subst (λ (z : Station). CallerKnows key r.n r.made r.line (pass_of r.lock k) z (λ m. (put r.station k st m).held) id (newcomer room k)) (sym (put_here r.station k st)) record {
+              (subst (λ (z : Station). CallerKnows key r.n r.made r.line (pass_of r.lock k) z (λ m. (put r.station k st m).held) id (new_known room k)) (sym (put_here r.station k st)) record {
                 number_made = know.number_made;
                 inside = inside;
                 seat_is = know.seat_is;
@@ -238,6 +238,6 @@ arrives key slots id room k me is near = subst (λ (m : Sat). Allows (Lawful key
                 notes = record { held_is = sym know.not_held; holder_held = λ p e. absurd (cc e); others_held = λ m e. absurd (cc e) };
               })
               (others_know key r.n r.made r.line r.line r.lock r.lock r.station (put r.station k st) k id know.seat_is (begins_self r.line) (λ i other. refl) (put_abides r.station k st) rises)
-              (holder_apart s.views r.station (put r.station k st) r.lock id (Newcomer room k) (Caller (newcomer room k)) at (λ c e. absurd (cc e)) (λ h p is. put_seat r.station k st refl h) r.holder_sits),
+              (holder_apart s.views r.station (put r.station k st) r.lock id (Newcomer room k) (Caller (new_known room k)) at (λ c e. absurd (cc e)) (λ h p is. put_seat r.station k st refl h) r.holder_sits),
           refl,
         )

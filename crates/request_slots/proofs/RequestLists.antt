@@ -1,5 +1,5 @@
 -- Requests taken, as plain lists: without those of a caller, with one more, and with each caller's once.
--- `request_by-without` and `request_by-without_else` say what `without` leaves, `without_middle` that it takes one request out of distinct
+-- `request_by-all_but` and `request_by-all_but_else` say what `all_but` leaves, `all_but_middle` that it takes one request out of distinct
 -- ones; `orderly_tries`, `orderly_takes` and `strikes_middle` that a pass stays orderly.
 use Rattle.std.proofs.Common.{◌≡◌, ◌≢◌, ◌⊎◌, inl, inr, ℕ, Bool, true, false, cond, List, [], ◌∷◌, ◌++◌, ◌==◌, ◌||◌, Option, Some, None, refl, sym, ap, ◌∙◌, subst, arith, eq-eqb, ne_eqb}
 use mathlib.Core.Logic.{dite}
@@ -9,30 +9,30 @@ use Rattle.call_history.specs.declared.request.Request.{Request}
 use Rattle.call_history.specs.Fits.{request, request_by}
 use Rattle.call_history.proofs.Serving.{request_by-push_else}
 use Rattle.request_slots.specs.declared.known.Pass.{Pass}
-use Rattle.request_slots.specs.Passes.{is_in, tries, takes_on, without, strikes}
+use Rattle.request_slots.specs.Passes.{is_in, tries, takes_on, all_but, strikes}
 use Rattle.request_slots.specs.Seating.{IsDistinct, IsOrderly}
 
-pub request_by-without : (k : ℕ) (rs : List Request) → request_by k (without k rs) ≡ None
-request_by-without k [] = refl
-request_by-without k (r ∷ rs) = go (r.caller == k) (request_by-without k rs) refl
+pub request_by-all_but : (k : ℕ) (rs : List Request) → request_by k (all_but k rs) ≡ None
+request_by-all_but k [] = refl
+request_by-all_but k (r ∷ rs) = go (r.caller == k) (request_by-all_but k rs) refl
   where
-    go : (b : Bool) → request_by k (without k rs) ≡ None → (r.caller == k) ≡ b → request_by k (cond b (without k rs) (r ∷ without k rs)) ≡ None
+    go : (b : Bool) → request_by k (all_but k rs) ≡ None → (r.caller == k) ≡ b → request_by k (cond b (all_but k rs) (r ∷ all_but k rs)) ≡ None
     go true later _ = later
-    go false later e = ap (λ b. cond {A = Option (List Call)} b (Some (r.call ∷ [])) (request_by k (without k rs))) e ∙ later
+    go false later e = ap (λ b. cond {A = Option (List Call)} b (Some (r.call ∷ [])) (request_by k (all_but k rs))) e ∙ later
 
-pub request_by-without_else : (k i : ℕ) (rs : List Request) → k ≢ i → request_by k (without i rs) ≡ request_by k rs
-request_by-without_else k i [] other = refl
-request_by-without_else k i (r ∷ rs) other = dite (ℕ_discrete r.caller i)
-    (λ same. ap (λ b. request_by k (cond b (without i rs) (r ∷ without i rs))) (eq-eqb r.caller i same) ∙ (request_by-without_else k i rs other
+pub request_by-all_but_else : (k i : ℕ) (rs : List Request) → k ≢ i → request_by k (all_but i rs) ≡ request_by k rs
+request_by-all_but_else k i [] other = refl
+request_by-all_but_else k i (r ∷ rs) other = dite (ℕ_discrete r.caller i)
+    (λ same. ap (λ b. request_by k (cond b (all_but i rs) (r ∷ all_but i rs))) (eq-eqb r.caller i same) ∙ (request_by-all_but_else k i rs other
     ∙ sym (ap (λ b. cond {A = Option (List Call)} b (Some (r.call ∷ [])) (request_by k rs)) (ne_eqb r.caller k (λ e. other (sym e ∙ same))))))
-    (λ apart. ap (λ b. request_by k (cond b (without i rs) (r ∷ without i rs))) (ne_eqb r.caller i apart)
-    ∙ ap (cond {A = Option (List Call)} (r.caller == k) (Some (r.call ∷ []))) (request_by-without_else k i rs other))
+    (λ apart. ap (λ b. request_by k (cond b (all_but i rs) (r ∷ all_but i rs))) (ne_eqb r.caller i apart)
+    ∙ ap (cond {A = Option (List Call)} (r.caller == k) (Some (r.call ∷ []))) (request_by-all_but_else k i rs other))
 
-without_none : (i : ℕ) (rs : List Request) → request_by i rs ≡ None → without i rs ≡ rs
-without_none i [] e = refl
-without_none i (r ∷ rs) e = go (r.caller == i) (without_none i rs) e
+all_but_none : (i : ℕ) (rs : List Request) → request_by i rs ≡ None → all_but i rs ≡ rs
+all_but_none i [] e = refl
+all_but_none i (r ∷ rs) e = go (r.caller == i) (all_but_none i rs) e
   where
-    go : (b : Bool) → (request_by i rs ≡ None → without i rs ≡ rs) → cond {A = Option (List Call)} b (Some (r.call ∷ [])) (request_by i rs) ≡ None → cond b (without i rs) (r ∷ without i rs) ≡ r ∷ rs
+    go : (b : Bool) → (request_by i rs ≡ None → all_but i rs ≡ rs) → cond {A = Option (List Call)} b (Some (r.call ∷ [])) (request_by i rs) ≡ None → cond b (all_but i rs) (r ∷ all_but i rs) ≡ r ∷ rs
     go true later e = absurd (cc e)
     go false later e = ap (λ (l : List Request). r ∷ l) (later e)
 
@@ -59,11 +59,11 @@ middle_asks (r ∷ rs) later i call = go (r.caller == i) (middle_asks rs later i
     go false more = more
 
 -- without one of distinct requests the others are left
-pub without_middle : (rs later : List Request) (i : ℕ) (call : Call) → IsDistinct (rs ++ request i call ∷ later) → (without i (rs ++ request i call ∷ later) ≡ rs ++ later) × IsDistinct (rs ++ later)
-without_middle [] later i call d = (ap (λ b. cond b (without i later) (request i call ∷ without i later)) (eq-eqb i i refl) ∙ without_none i later d.0, d.1)
-without_middle (r ∷ rs) later i call d =
-    let front = request_by-middle r.caller i rs later call d.0 in let more = without_middle rs later i call d.1 in
-    (ap (λ b. cond b (without i (rs ++ request i call ∷ later)) (r ∷ without i (rs ++ request i call ∷ later))) (ne_eqb r.caller i front.0) ∙ ap (λ (l : List Request). r ∷ l) more.0, (front.1, more.1))
+pub all_but_middle : (rs later : List Request) (i : ℕ) (call : Call) → IsDistinct (rs ++ request i call ∷ later) → (all_but i (rs ++ request i call ∷ later) ≡ rs ++ later) × IsDistinct (rs ++ later)
+all_but_middle [] later i call d = (ap (λ b. cond b (all_but i later) (request i call ∷ all_but i later)) (eq-eqb i i refl) ∙ all_but_none i later d.0, d.1)
+all_but_middle (r ∷ rs) later i call d =
+    let front = request_by-middle r.caller i rs later call d.0 in let more = all_but_middle rs later i call d.1 in
+    (ap (λ b. cond b (all_but i (rs ++ request i call ∷ later)) (r ∷ all_but i (rs ++ request i call ∷ later))) (ne_eqb r.caller i front.0) ∙ ap (λ (l : List Request). r ∷ l) more.0, (front.1, more.1))
 
 pub distinct-push : (rs : List Request) (i : ℕ) (call : Call) → IsDistinct rs → request_by i rs ≡ None → IsDistinct (rs ++ request i call ∷ [])
 distinct-push [] i call d fresh = (refl, tt)
@@ -104,14 +104,14 @@ orderly_takes p i call untried o = record {
   distinct = distinct-push p.taken i call o.distinct (o.untaken i untried);
 }
 
-pub strikes_middle : (p : Pass) (i : ℕ) (earlier later : List Request) (call : Call) → IsOrderly p → p.taken ≡ earlier ++ request i call ∷ later → (without i p.taken ≡ earlier ++ later) × IsOrderly (strikes p i)
+pub strikes_middle : (p : Pass) (i : ℕ) (earlier later : List Request) (call : Call) → IsOrderly p → p.taken ≡ earlier ++ request i call ∷ later → (all_but i p.taken ≡ earlier ++ later) × IsOrderly (strikes p i)
 strikes_middle p i earlier later call o there =
-    let left = without_middle earlier later i call (subst IsDistinct there o.distinct) in
-    let same : without i p.taken ≡ earlier ++ later = ap (without i) there ∙ left.0 in (
+    let left = all_but_middle earlier later i call (subst IsDistinct there o.distinct) in
+    let same : all_but i p.taken ≡ earlier ++ later = ap (all_but i) there ∙ left.0 in (
       same,
       record {
-        untaken = λ k e. dite (ℕ_discrete k i) (λ (is : k ≡ i). subst (λ (z : ℕ). request_by z (without i p.taken) ≡ None) (sym is) (request_by-without i p.taken))
-            (λ other. request_by-without_else k i p.taken other ∙ o.untaken k e);
+        untaken = λ k e. dite (ℕ_discrete k i) (λ (is : k ≡ i). subst (λ (z : ℕ). request_by z (all_but i p.taken) ≡ None) (sym is) (request_by-all_but i p.taken))
+            (λ other. request_by-all_but_else k i p.taken other ∙ o.untaken k e);
         distinct = subst IsDistinct (sym same) left.1;
       },
     )

@@ -14,7 +14,7 @@ use Rattle.request_slots.specs.declared.known.Phase.TheVariants.{Idle}
 use Rattle.request_slots.specs.declared.known.View.{View}
 use Rattle.request_slots.specs.declared.known.View.TheVariants.{Caller}
 use Rattle.request_slots.specs.Views.{known_of, left_in, pass_in, Collected, FrontHolds}
-use Rattle.request_slots.specs.Seating.{Seated, IsSeated, hand_of, IsOrderly, seated_at, seats_of, IsNewAt}
+use Rattle.request_slots.specs.Seating.{Seated, IsSeated, hand_of, IsOrderly, seated_at, seats_of, IsNewSeatAt}
 
 pub caller_word : (z y : TableId) (k : ℕ) → z ≡ y → z.words ≡ z.slots + 1 → k + 1 < z.slots → k + 2 < y.words
 caller_word z y k same wide inside = subst (λ (t : TableId). k + 2 < t.words) same (omega arith)
@@ -42,14 +42,14 @@ pub collected_keeps : (c : Known) (calls : List Call) (start : List Entry) (fate
 collected_keeps c calls start (StandsAt place replies) c' h = let e = h.5 in (ap (λ (z : Known). z.pass) e, ap (λ (z : Known). z.phase) e, ap (λ (z : Known). z.number) e)
 collected_keeps c calls start (CameBack back) c' h = let e = h.1 in (ap (λ (z : Known). z.pass) e, ap (λ (z : Known). z.phase) e, ap (λ (z : Known). z.number) e)
 
-all_new : (z : TableId) (room n : ℕ) → All (IsNewAt z) (seats_of z room n)
+all_new : (z : TableId) (room n : ℕ) → All (IsNewSeatAt z) (seats_of z room n)
 all_new z room zero = λ k d lt. absurd (omega arith)
-all_new z room (suc n) = All-append (IsNewAt z) (seats_of z room n) (seated_at z room n ∷ []) (all_new z room n) last
+all_new z room (suc n) = All-append (IsNewSeatAt z) (seats_of z room n) (seated_at z room n ∷ []) (all_new z room n) last
   where
-    last : All (IsNewAt z) (seated_at z room n ∷ [])
+    last : All (IsNewSeatAt z) (seated_at z room n ∷ [])
     last zero d lt = (refl, refl, refl, λ _. (refl, refl))
     last (suc k) d lt = absurd (omega arith)
 
 -- the seats of a new table are of new callers
-pub all_new_at : (z : TableId) (room n : ℕ) (seats : List Seated) → seats ≡ seats_of z room n → All (IsNewAt z) seats
-all_new_at z room n seats e = subst (All (IsNewAt z)) (sym e) (all_new z room n)
+pub all_new_at : (z : TableId) (room n : ℕ) (seats : List Seated) → seats ≡ seats_of z room n → All (IsNewSeatAt z) seats
+all_new_at z room n seats e = subst (All (IsNewSeatAt z)) (sym e) (all_new z room n)

@@ -21,7 +21,7 @@ use Rattle.request_slots.specs.Views.{known_of, pass_in, passing}
 use Rattle.request_slots.specs.Events.{Sat, Tells}
 use Rattle.request_slots.proofs.Stations.{Abides, put_all_abide}
 use Rattle.request_slots.proofs.Carrying.{made_by_stage, moved}
-use Rattle.request_slots.proofs.RequestLists.{request_by-without, request_by-without_else}
+use Rattle.request_slots.proofs.RequestLists.{request_by-all_but, request_by-all_but_else}
 use Rattle.request_slots.proofs.Passing.{staged, mine, holds_pass, serve_step}
 
 taken_by_request : (stage : Stage) (calls asked : List Call) → Some asked ≡ request_at stage calls → stage ≡ taken
@@ -61,10 +61,10 @@ module _ (room : ℕ) (s : State Slot View) (r : Lawful room s) (id : ℕ) (c : 
       let told = subst (ServedHolds room r.line (outcome_by i p.asked p.outcomes) i there'.own there'.calls there'.start) over stage.served in
       let same : told.0 ≡ o = cc (told.1, has_told) in
       serve_step room s r id c there p has i 4 (some (Told o)) (staged there' done) p' near (made_by_stage room s r i (λ e. let t : taken ≡ unmade = sym at_taken ∙ e in absurd (cc t))) (abides_done there' at_taken)
-      (λ j other. ap (λ (q : Option (List Call)). let z : Part = record { request = q; outcome = outcome_by j p.asked p.outcomes; before = p.before; committed = p.committed } in z) (request_by-without_else j i p.taken other))
+      (λ j other. ap (λ (q : Option (List Call)). let z : Part = record { request = q; outcome = outcome_by j p.asked p.outcomes; before = p.before; committed = p.committed } in z) (request_by-all_but_else j i p.taken other))
       record {
         word_is = refl;
-        request_is = request_by-without i p.taken;
+        request_is = request_by-all_but i p.taken;
         stage_holds = record {
           outcome = o;
           home_is = refl;
@@ -76,7 +76,7 @@ module _ (room : ℕ) (s : State Slot View) (r : Lawful room s) (id : ℕ) (c : 
         before_is = pass.before_is;
         grows = pass.grows;
         all_tried = pass.all_tried;
-        of_callers = λ j far. request_by-without_else j i p.taken (λ e. omega arith) ∙ pass.of_callers j far;
+        of_callers = λ j far. request_by-all_but_else j i p.taken (λ e. omega arith) ∙ pass.of_callers j far;
       }
       (λ t e. knows.settled.tried p has t ((put_all_abide r.station i (staged there' done) (abides_done there' at_taken) c.number).posted_stood e))
 

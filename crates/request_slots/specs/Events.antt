@@ -14,9 +14,9 @@ use Rattle.request_slots.specs.declared.desk.Slot.TheVariants.{Nothing, Asked, T
 use Rattle.request_slots.specs.declared.known.Known.{Known}
 use Rattle.request_slots.specs.declared.known.View.{View}
 use Rattle.request_slots.specs.declared.known.View.TheVariants.{Caller}
-use Rattle.request_slots.specs.Stages.{word_of, desk_slot, slot_of, idle, posted, done, code}
+use Rattle.request_slots.specs.Stages.{own_word, desk_slot, own_slot, idle, posted, done, code}
 use Rattle.request_slots.specs.Passes.{takes_on, tries, strikes}
-use Rattle.request_slots.specs.Views.{known_of, pass_in, left_calls, left_start, leaving, locking, passing, committing, unlocking, looking, adopting, FrontHolds, Collected, Meets, ShowsLine, IsSpare}
+use Rattle.request_slots.specs.Views.{known_of, pass_in, left_calls, left_start, posting, locking, passing, committing, unlocking, looking, adopting, FrontHolds, Collected, Meets, ShowsLine, IsSpare}
 
 -- a seat: its view, and the slots in its hand
 abbrev pub Sat : Type 0
@@ -35,12 +35,12 @@ calls_in_hand (x ∷ hand) = calls_in x.1
 
 -- a caller posts the calls that lie in its hand
 abbrev pub Posts : Step Slot → Sat → ℕ → Sat → Type 0
-Posts st m found m' = (found ≡ code idle) × (m'.0 ≡ Caller (leaving (known_of m.0) (calls_in_hand m.1))) × (m'.1 ≡ rest m.1)
+Posts st m found m' = (found ≡ code idle) × (m'.0 ≡ Caller (posting (known_of m.0) (calls_in_hand m.1))) × (m'.1 ≡ rest m.1)
 
 -- a caller takes its outcome, or finds none yet
 abbrev pub Collects : Step Slot → Sat → ℕ → Sat → Type 0
 Collects st m found m' =
-    (found ≡ code done → (o : Outcome) × (c' : Known) × (m'.0 ≡ Caller c') × (m'.1 ≡ (slot_of (known_of m.0).number, Told o) ∷ m.1)
+    (found ≡ code done → (o : Outcome) × (c' : Known) × (m'.0 ≡ Caller c') × (m'.1 ≡ (own_slot (known_of m.0).number, Told o) ∷ m.1)
     × Collected (known_of m.0) (left_calls (known_of m.0).phase) (left_start (known_of m.0).phase) (fate_of o) c' × FrontHolds st.slots c')
     × (found ≢ code done → (m' ≡ m) × ((known_of m.0).settled ≡ false))
 
@@ -53,14 +53,14 @@ Locks st m found m' =
 
 -- the request of the caller of this word is taken, or its word only counts as tried
 abbrev pub Takes : Step Slot → Sat → ℕ → Sat → Type 0
-Takes st m found m' = (i : ℕ) → st.word ≡ word_of i
+Takes st m found m' = (i : ℕ) → st.word ≡ own_word i
     → (found ≡ code posted → (call : Call) × (m'.0 ≡ Caller (passing (known_of m.0) (takes_on (pass_in (known_of m.0)) i call)))
-    × (m'.1 ≡ (slot_of i, Asked call) ∷ m.1))
+    × (m'.1 ≡ (own_slot i, Asked call) ∷ m.1))
     × (found ≢ code posted → m' ≡ (Caller (passing (known_of m.0) (tries (pass_in (known_of m.0)) i)), m.1))
 
 -- a look at a word before a try: where nothing is posted the word counts as tried, else nothing changes
 abbrev pub Skips : Step Slot → Sat → ℕ → Sat → Type 0
-Skips st m found m' = (i : ℕ) → st.word ≡ word_of i
+Skips st m found m' = (i : ℕ) → st.word ≡ own_word i
     → (found ≡ code posted → m' ≡ m)
     × (found ≢ code posted → m' ≡ (Caller (passing (known_of m.0) (tries (pass_in (known_of m.0)) i)), m.1))
 
@@ -70,7 +70,7 @@ Commits line outcomes st m found m' = m' ≡ (Caller (committing (known_of m.0) 
 
 -- the outcome in the hand goes home
 abbrev pub Tells : Step Slot → Sat → ℕ → Sat → Type 0
-Tells st m found m' = (i : ℕ) → st.word ≡ word_of i
+Tells st m found m' = (i : ℕ) → st.word ≡ own_word i
     → m' ≡ (Caller (passing (known_of m.0) (strikes (pass_in (known_of m.0)) i)), rest m.1)
 
 -- the desk in the hand goes home
@@ -93,4 +93,4 @@ Adopts st m found m' =
 
 -- a new caller is at its place, with its slot
 abbrev pub Arrives : Step Slot → Sat → ℕ → Sat → Type 0
-Arrives st m found m' = m' ≡ (Caller (known_of m.0), (slot_of (known_of m.0).number, Nothing) ∷ [])
+Arrives st m found m' = m' ≡ (Caller (known_of m.0), (own_slot (known_of m.0).number, Nothing) ∷ [])

@@ -12,7 +12,7 @@ use Rattle.request_slots.specs.declared.known.Pass.{Pass}
 use Rattle.request_slots.specs.declared.known.Known.{Known}
 use Rattle.request_slots.specs.declared.known.View.{View}
 use Rattle.request_slots.specs.declared.known.View.TheVariants.{Maker, Newcomer, Caller, Bare, Spent}
-use Rattle.request_slots.specs.Stages.{lock_word, length_word, word_of, desk_slot, slot_of, unmade, Station}
+use Rattle.request_slots.specs.Stages.{lock_word, length_word, own_word, desk_slot, own_slot, unmade, Station}
 use Rattle.request_slots.specs.Passes.{Lock, pass_of, part_of}
 use Rattle.request_slots.specs.Fronts.{FrontsBegin, LineHolds}
 use Rattle.request_slots.specs.Locks.{LockHolds, HolderSits, SitApart, MadeSit}
@@ -83,6 +83,6 @@ pub record Lawful (room : ℕ) (s : State Slot View) : Type 0 where
   -- 4. In each caller's slot lies what its word says (Requests). Of a slot that is out, the desk's too, the rule says no more: whose
   -- hand it is in, in which order, and that it is empty there stands at the seat (`IsSeated` of Seating), which keeps it by itself.
   pub each_caller : (k : ℕ) → k < n
-      → CallerHolds room line (part_of lock k) (slice_index s.words (word_of k)) (get_elem? s.homes (slot_of k)) k (station k)
+      → CallerHolds room line (part_of lock k) (slice_index s.words (own_word k)) (get_elem? s.homes (own_slot k)) k (station k)
   -- 1, 3, 5, 6, 7. Each seat knows only what is so.
   pub each_seat : (j : ℕ) (v : View) → get_elem? s.views j ≡ some v → Knows room n made line lock station j v

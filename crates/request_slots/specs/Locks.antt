@@ -59,18 +59,18 @@ HolderSits views station (held_by h p) =
     (c : Known) × (get_elem? views (station h).seat ≡ some (Caller c)) × (c.number ≡ h) × (c.pass ≡ Some p)
 
 -- the caller that a view is of
-abbrev pub caller_of : View → Option ℕ
-caller_of (Maker room k) = None
-caller_of (Newcomer room k) = Some k
-caller_of (Caller c) = Some c.number
-caller_of (Bare seen) = None
-caller_of Spent = None
+abbrev pub sitter_of : View → Option ℕ
+sitter_of (Maker room k) = None
+sitter_of (Newcomer room k) = Some k
+sitter_of (Caller c) = Some c.number
+sitter_of (Bare seen) = None
+sitter_of Spent = None
 
 -- no two views are of one caller
 abbrev pub SitApart : List View → Type 0
 SitApart views = (i j k : ℕ) (v w : View) → get_elem? views i ≡ some v → get_elem? views j ≡ some w
-    → caller_of v ≡ Some k → caller_of w ≡ Some k → i ≡ j
+    → sitter_of v ≡ Some k → sitter_of w ≡ Some k → i ≡ j
 
 -- each caller that was made has a view, which stands where its station says
 abbrev pub MadeSit : List View → (ℕ → Station) → ℕ → Type 0
-MadeSit views station made = (k : ℕ) → k < made → (v : View) × (get_elem? views (station k).seat ≡ some v) × (caller_of v ≡ Some k)
+MadeSit views station made = (k : ℕ) → k < made → (v : View) × (get_elem? views (station k).seat ≡ some v) × (sitter_of v ≡ Some k)

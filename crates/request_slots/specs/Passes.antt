@@ -57,10 +57,10 @@ abbrev pub commits : Pass → List Entry → List Outcome → Pass
 commits p line outcomes = record p { line = line; asked = p.taken; outcomes = outcomes; committed = true }
 
 -- the requests of all callers but k
-abbrev pub without : ℕ → List Request → List Request
-without k [] = []
-without k (r ∷ rs) = if r.caller == k then without k rs else r ∷ without k rs
+abbrev pub all_but : ℕ → List Request → List Request
+all_but k [] = []
+all_but k (r ∷ rs) = if r.caller == k then all_but k rs else r ∷ all_but k rs
 
 -- the request of caller i was answered
 abbrev pub strikes : Pass → ℕ → Pass
-strikes p i = record p { taken = without i p.taken }
+strikes p i = record p { taken = all_but i p.taken }

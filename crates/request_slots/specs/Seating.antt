@@ -14,9 +14,9 @@ use Rattle.request_slots.specs.declared.known.Phase.{Phase}
 use Rattle.request_slots.specs.declared.known.Phase.TheVariants.{Idle, Left}
 use Rattle.request_slots.specs.declared.known.View.{View}
 use Rattle.request_slots.specs.declared.known.View.TheVariants.{Caller}
-use Rattle.request_slots.specs.Stages.{desk_slot, slot_of}
+use Rattle.request_slots.specs.Stages.{desk_slot, own_slot}
 use Rattle.request_slots.specs.Passes.{is_in}
-use Rattle.request_slots.specs.Views.{known_of, pass_in, newcomer, left_in, Rests, FrontHolds}
+use Rattle.request_slots.specs.Views.{known_of, pass_in, new_known, left_in, IsAtRest, FrontHolds}
 
 -- the name of one table, for the crates above
 abbrev pub Machine : Type 0
@@ -35,13 +35,13 @@ Hand = List (ℕ × Slot)
 
 -- an idle caller has its own slot
 abbrev pub own_hand : ℕ → Phase → Hand
-own_hand k Idle = (slot_of k, Nothing) ∷ []
+own_hand k Idle = (own_slot k, Nothing) ∷ []
 own_hand k (Left calls start) = []
 
 -- the slots of these requests, the last one first, and then the others
 abbrev pub stacked : List Request → Hand → Hand
 stacked [] hand = hand
-stacked (r ∷ rs) hand = stacked rs ((slot_of r.caller, Nothing) ∷ hand)
+stacked (r ∷ rs) hand = stacked rs ((own_slot r.caller, Nothing) ∷ hand)
 
 -- the caller that has the desk has its slot, and the slots of the requests taken
 abbrev pub pass_hand : Option Pass → Hand → Hand
@@ -80,7 +80,7 @@ pub record IsSeated (seat : token.Seat Slot View) (number : ℕ) (idle : Bool) :
 
 -- the seat of a new caller
 abbrev pub seated_at : TableId → ℕ → ℕ → Seated
-seated_at z room k = record { table_id = z; known = newcomer room k }
+seated_at z room k = record { table_id = z; known = new_known room k }
 
 -- the seats of the first n callers
 abbrev pub seats_of : TableId → ℕ → ℕ → List Seated
@@ -88,5 +88,5 @@ seats_of z room zero = []
 seats_of z room (suc n) = seats_of z room n ++ seated_at z room n ∷ []
 
 -- the seat of a caller of this table that has left nothing and does not have the desk
-abbrev pub IsNewAt : TableId → Seated → Type 0
-IsNewAt z s = (s.table_id ≡ z) × (s.known.phase ≡ Idle) × (s.known.pass ≡ None) × Rests s.known
+abbrev pub IsNewSeatAt : TableId → Seated → Type 0
+IsNewSeatAt z s = (s.table_id ≡ z) × (s.known.phase ≡ Idle) × (s.known.pass ≡ None) × IsAtRest s.known

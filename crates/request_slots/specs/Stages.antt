@@ -14,14 +14,14 @@ lock_word = 0
 abbrev pub length_word : ℕ
 length_word = 1
 
-abbrev pub word_of : ℕ → ℕ
-word_of k = k + 2
+abbrev pub own_word : ℕ → ℕ
+own_word k = k + 2
 
 abbrev pub desk_slot : ℕ
 desk_slot = 0
 
-abbrev pub slot_of : ℕ → ℕ
-slot_of k = k + 1
+abbrev pub own_slot : ℕ → ℕ
+own_slot k = k + 1
 
 -- where a caller's request stands
 pub data Stage : Type 0 where

@@ -20,8 +20,8 @@ use Rattle.request_slots.specs.Passes.{is_in, fresh_pass, commits}
 use Rattle.request_slots.specs.Fronts.{IsOfCallers}
 
 -- a caller that has seen nothing
-abbrev pub newcomer : ℕ → ℕ → Known
-newcomer room k = record {
+abbrev pub new_known : ℕ → ℕ → Known
+new_known room k = record {
   room = room;
   number = k;
   seen = [];
@@ -38,10 +38,10 @@ newcomer room k = record {
 -- what the seat of a caller knows; of another seat this says nothing
 abbrev pub known_of : View → Known
 known_of (Caller c) = c
-known_of (Maker room k) = newcomer room k
-known_of (Newcomer room k) = newcomer room k
-known_of (Bare seen) = newcomer 0 0
-known_of Spent = newcomer 0 0
+known_of (Maker room k) = new_known room k
+known_of (Newcomer room k) = new_known room k
+known_of (Bare seen) = new_known 0 0
+known_of Spent = new_known 0 0
 
 -- what a bare view has seen; of another view this says nothing
 abbrev pub seen_in : View → List Entry
@@ -67,13 +67,13 @@ abbrev pub IsLeft : Known → Type 0
 IsLeft c = c.phase ≡ Left (left_calls c.phase) (left_start c.phase)
 
 -- while a caller is idle, its own calls in what it has seen are its record, and no outcome waits for it
-abbrev pub Rests : Known → Type 0
-Rests c = c.phase ≡ Idle → (calls_by c.number c.seen ≡ c.own) × (c.settled ≡ false)
+abbrev pub IsAtRest : Known → Type 0
+IsAtRest c = c.phase ≡ Idle → (calls_by c.number c.seen ≡ c.own) × (c.settled ≡ false)
 
 -- What a caller of a table of so many slots may rely on of what it has seen: it rests there, and there are no calls but of callers
 -- of the table.
 abbrev pub FrontHolds : ℕ → Known → Type 0
-FrontHolds slots c = Rests c × IsOfCallers (slots - 1) c.seen
+FrontHolds slots c = IsAtRest c × IsOfCallers (slots - 1) c.seen
 
 abbrev pub pass_or : Option Pass → Pass
 pass_or (Some p) = p
@@ -87,16 +87,16 @@ abbrev pub HasDesk : Known → Type 0
 HasDesk c = c.pass ≡ Some (pass_in c)
 
 -- the caller leaves these calls
-abbrev pub leaving : Known → List Call → Known
-leaving c calls = record c { phase = Left calls c.seen }
+abbrev pub posting : Known → List Call → Known
+posting c calls = record c { phase = Left calls c.seen }
 
 -- it takes the desk, with this line
 abbrev pub locking : Known → List Entry → Known
 locking c line = record c { held = true; pass = Some (fresh_pass line) }
 
 -- it finds another caller at the lock
-abbrev pub meeting : Known → ℕ → Known
-meeting c h = record c { met = c.met ++ h ∷ [] }
+abbrev pub finding : Known → ℕ → Known
+finding c h = record c { met = c.met ++ h ∷ [] }
 
 -- its pass goes on
 abbrev pub passing : Known → Pass → Known
@@ -122,8 +122,8 @@ abbrev pub collecting : Known → List Call → List Entry → Known
 collecting c calls history = record c { seen = longer c.seen history; own = c.own ++ calls; phase = Idle; settled = false }
 
 -- they came back
-abbrev pub resting : Known → Known
-resting c = record c { phase = Idle; settled = false }
+abbrev pub given_back : Known → Known
+given_back c = record c { phase = Idle; settled = false }
 
 -- it is told what another has seen
 abbrev pub informed : Known → List Entry → Known
@@ -139,11 +139,11 @@ Collected c calls start (StandsAt place replies) c' =
     (history : List Entry) × (length history ≡ place + length calls)
     × Answers c.room start c.own c.number calls history replies
     × Begins c.seen (longer c.seen history) × Begins history (longer c.seen history) × (c' ≡ collecting c calls history)
-Collected c calls start (CameBack back) c' = (back ≡ calls) × (c' ≡ resting c)
+Collected c calls start (CameBack back) c' = (back ≡ calls) × (c' ≡ given_back c)
 
 -- another caller of the table was found to have the desk
 abbrev pub Meets : ℕ → Known → Known → Type 0
-Meets slots c c' = (h : ℕ) × (h ≢ c.number) × (h + 1 < slots) × (c' ≡ meeting c h)
+Meets slots c c' = (h : ℕ) × (h ≢ c.number) × (h + 1 < slots) × (c' ≡ finding c h)
 
 -- a caller's own calls in a history are its record, or also those that it left
 abbrev pub OwnCallsIn : Known → List Entry → Type 0

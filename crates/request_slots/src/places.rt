@@ -1,7 +1,7 @@
 //! Which word and which slot is whose, and what the words say.
 
 ghost use Rattle.std.specs.Prelude.{◌≡◌, ◌<◌, ◌^◌};
-ghost use Rattle.request_slots.specs.Stages.{word_of, slot_of};
+ghost use Rattle.request_slots.specs.Stages.{own_word, own_slot};
 
 /// The word of the lock: `FREE`, or 1 more than the number of the caller that has the desk.
 pub(crate) const LOCK: usize = 0;
@@ -26,7 +26,7 @@ pub(crate) const DONE: u64 = 4;
 /// The word of a caller.
 pub(crate) fn word_at(caller: usize) -> usize
     requires { caller < 2 ^ 32 }
-    ensures { result ≡ word_of caller }
+    ensures { result ≡ own_word caller }
 {
     caller + 2
 }
@@ -34,7 +34,7 @@ pub(crate) fn word_at(caller: usize) -> usize
 /// The slot of a caller: what it asks, and then what it is told.
 pub(crate) fn slot_at(caller: usize) -> usize
     requires { caller < 2 ^ 32 }
-    ensures { result ≡ slot_of caller }
+    ensures { result ≡ own_slot caller }
 {
     caller + 1
 }

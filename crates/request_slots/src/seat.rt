@@ -1,6 +1,6 @@
 ghost use Rattle.std.specs.Prelude.{◌≡◌, not, length};
 ghost use Rattle.request_slots.specs.Fronts.{IsOfCallers};
-ghost use Rattle.request_slots.specs.Views.{known_of, left_in, Rests};
+ghost use Rattle.request_slots.specs.Views.{known_of, left_in, IsAtRest};
 ghost use Rattle.request_slots.specs.Seating.{Seated, IsSeated, callers_of, own_hand, turned_times};
 
 use crate::desk::Slot;
@@ -34,7 +34,7 @@ impl Seat {
     /// Whether nothing is left. Then the caller's own calls in what it has seen are its record, and nothing waits for it.
     pub fn is_idle(&self) -> bool
         ensures idle { result ≡ not (left_in self.now.known.phase) }
-        ensures rests { Rests self.now.known }
+        ensures rests { IsAtRest self.now.known }
         ensures no_strangers { IsOfCallers (callers_of self.now.table_id) self.now.known.seen }
     {
         self.idle

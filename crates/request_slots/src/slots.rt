@@ -4,7 +4,7 @@ ghost use Rattle.request_slots.specs.declared.desk.Slot.TheVariants.{Nothing, Ke
 ghost use Rattle.request_slots.specs.declared.known.View.TheVariants.{Maker};
 ghost use Rattle.request_slots.specs.Lawful.{Lawful};
 ghost use Rattle.request_slots.specs.Views.{ShowsLine, IsSpare};
-ghost use Rattle.request_slots.specs.Seating.{seated_at, seats_of, IsNewAt};
+ghost use Rattle.request_slots.specs.Seating.{seated_at, seats_of, IsNewSeatAt};
 
 use crate::desk::{Desk, Slot};
 use crate::known::View;
@@ -50,7 +50,7 @@ impl Slots {
         requires spare { IsSpare (callers + 1) desk.value }
         ensures size { IfOk result (λ t. t.0.slots ≡ callers + 1) }
         ensures seats { IfOk result (λ t. t.1.items ≡ seats_of t.0 desk.value.book.room callers) }
-        ensures each { IfOk result (λ t. All (IsNewAt t.0) t.1.items) }
+        ensures each { IfOk result (λ t. All (IsNewSeatAt t.0) t.1.items) }
     {
         let room = desk.book.room();
         let mut seats = Vec::with_capacity(alloc, callers)?;

@@ -1,7 +1,7 @@
 ghost use Rattle.std.specs.Prelude.{◌≡◌, false, IfSome, IfNone};
 ghost use Rattle.call_history.specs.Fits.{fate_of};
 ghost use Rattle.request_slots.specs.Fronts.{IsOfCallers};
-ghost use Rattle.request_slots.specs.Views.{left_calls, left_start, Collected, IsLeft, Rests};
+ghost use Rattle.request_slots.specs.Views.{left_calls, left_start, Collected, IsLeft, IsAtRest};
 ghost use Rattle.request_slots.specs.Seating.{callers_of};
 
 use crate::desk::Slot;
@@ -20,7 +20,7 @@ impl Slots {
         ensures told { IfSome result (λ o. Collected seat.old.known (left_calls seat.old.known.phase)
             (left_start seat.old.known.phase) (fate_of o) seat.new.known) }
         ensures waiting { IfNone result ((seat.new.known ≡ seat.old.known) × (seat.old.known.settled ≡ false)) }
-        ensures rests { Rests seat.new.known }
+        ensures rests { IsAtRest seat.new.known }
         ensures no_strangers { IsOfCallers (callers_of seat.new.table_id) seat.new.known.seen }
     {
         let number = seat.number;

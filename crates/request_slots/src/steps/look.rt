@@ -1,7 +1,7 @@
 ghost use Rattle.std.specs.Prelude.{◌≡◌, length};
 ghost use Rattle.call_history.specs.History.{Begins};
 ghost use Rattle.request_slots.specs.Fronts.{IsOfCallers};
-ghost use Rattle.request_slots.specs.Views.{looking, informed, adopting, Rests};
+ghost use Rattle.request_slots.specs.Views.{looking, informed, adopting, IsAtRest};
 ghost use Rattle.request_slots.specs.Seating.{callers_of};
 
 use crate::places::LENGTH;
@@ -17,7 +17,7 @@ impl Slots {
         ensures known { seat.new.known ≡ looking seat.old.known seat.new.known.seen }
         ensures later { Begins seat.old.known.seen seat.new.known.seen }
         ensures length { result ≡ length seat.new.known.seen }
-        ensures rests { Rests seat.new.known }
+        ensures rests { IsAtRest seat.new.known }
         ensures no_strangers { IsOfCallers (callers_of seat.new.table_id) seat.new.known.seen }
     {
         self.table.shared.load::<Look>(&mut seat.seat, LENGTH)
@@ -30,7 +30,7 @@ impl Slots {
         ensures known { seat.new.known ≡ adopting (informed seat.old.known other.old.known.seen) }
         ensures own { Begins seat.old.known.seen seat.new.known.seen }
         ensures told { Begins other.old.known.seen seat.new.known.seen }
-        ensures rests { Rests seat.new.known }
+        ensures rests { IsAtRest seat.new.known }
         ensures no_strangers { IsOfCallers (callers_of seat.new.table_id) seat.new.known.seen }
         ensures other { other.new ≡ other.old }
     {

@@ -1,6 +1,6 @@
 ghost use Rattle.std.specs.Prelude.{◌≡◌, [], ◌∷◌, None};
 ghost use Rattle.request_slots.specs.declared.known.Phase.TheVariants.{Idle};
-ghost use Rattle.request_slots.specs.Views.{leaving};
+ghost use Rattle.request_slots.specs.Views.{posting};
 
 use crate::desk::Slot;
 use crate::places::{IDLE, POSTED, slot_at, word_at};
@@ -16,7 +16,7 @@ impl Slots {
         requires idle { seat.old.known.phase ≡ Idle }
         requires no_desk { seat.old.known.pass ≡ None }
         ensures place { seat.new.table_id ≡ self.now }
-        ensures known { seat.new.known ≡ leaving seat.old.known (call ∷ []) }
+        ensures known { seat.new.known ≡ posting seat.old.known (call ∷ []) }
     {
         let shared = &self.table.shared;
         let number = seat.number;

@@ -1,6 +1,6 @@
 ghost use Rattle.std.specs.Prelude.{◌≡◌, []};
 ghost use Rattle.request_slots.specs.Fronts.{IsOfCallers};
-ghost use Rattle.request_slots.specs.Views.{pass_in, unlocking, HasDesk, IsSpare, Rests};
+ghost use Rattle.request_slots.specs.Views.{pass_in, unlocking, HasDesk, IsSpare, IsAtRest};
 ghost use Rattle.request_slots.specs.Seating.{callers_of};
 
 use crate::desk::{Desk, Slot};
@@ -20,7 +20,7 @@ impl Slots {
         requires spare { IsSpare self.now.slots desk.value }
         ensures place { seat.new.table_id ≡ self.now }
         ensures known { seat.new.known ≡ unlocking seat.old.known (pass_in seat.old.known) }
-        ensures rests { Rests seat.new.known }
+        ensures rests { IsAtRest seat.new.known }
         ensures no_strangers { IsOfCallers (callers_of seat.new.table_id) seat.new.known.seen }
     {
         let shared = &self.table.shared;

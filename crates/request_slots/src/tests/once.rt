@@ -2,7 +2,7 @@
 
 ghost use Rattle.std.specs.Prelude.{◌≡◌, ◌+◌, ◌<◌, ◌≤◌, None, All, IfSome};
 ghost use Rattle.vector_memory.specs.States.{IsLawfulRoom};
-ghost use Rattle.request_slots.specs.Seating.{IsNewAt};
+ghost use Rattle.request_slots.specs.Seating.{IsNewSeatAt};
 
 use crate::{Desk, Seat, Slots};
 use call_history::Book;
@@ -16,7 +16,7 @@ fn table(alloc: Global, callers: usize, room: u64) -> Option<(Slots, Vec<Seat>)>
     requires count { (0 < callers) × (callers ≤ 64) }
     requires room { IsLawfulRoom room }
     ensures size { IfSome result (λ t. t.0.slots ≡ callers + 1) }
-    ensures each { IfSome result (λ t. All (IsNewAt t.0) t.1.items) }
+    ensures each { IfSome result (λ t. All (IsNewSeatAt t.0) t.1.items) }
 {
     let desk = Desk {
         book: Book::new(alloc, room).ok()?,
@@ -28,8 +28,8 @@ fn table(alloc: Global, callers: usize, room: u64) -> Option<(Slots, Vec<Seat>)>
 
 /// A table with two callers.
 fn pair(alloc: Global) -> Option<(Slots, Seat, Seat)>
-    ensures first { IfSome result (λ m. IsNewAt m.0 m.1) }
-    ensures second { IfSome result (λ m. IsNewAt m.0 m.2) }
+    ensures first { IfSome result (λ m. IsNewSeatAt m.0 m.1) }
+    ensures second { IfSome result (λ m. IsNewSeatAt m.0 m.2) }
 {
     let (slots, mut seats) = table(alloc, 2, 100)?;
     let second = seats.pop()?;
@@ -39,7 +39,7 @@ fn pair(alloc: Global) -> Option<(Slots, Seat, Seat)>
 
 /// Posts a call. It has no outcome yet.
 fn waits(slots: &Slots, seat: &mut Seat, call: Call) -> bool
-    requires new { IsNewAt slots.now seat.old }
+    requires new { IsNewSeatAt slots.now seat.old }
     ensures place { seat.new.table_id ≡ slots.now }
     ensures no_desk { seat.new.known.pass ≡ None }
 {
