@@ -5,8 +5,8 @@
 //! One word is the lock, one the length of the history, and each caller has a word and a slot of its own: `places` says which,
 //! and what the words say. One slot has the desk.
 //!
-//! A pass is `step_lock`, `step_take` once for each caller, `step_commit`, `step_answer` for each request taken and
-//! `step_unlock`. A caller that asks takes `step_post`, and `step_collect` until it is told.
+//! A pass is `step_lock`, `passes_by` or `step_take` once for each caller, `step_commit`, `step_answer` for each request taken
+//! and `step_unlock`. A caller that asks takes `step_post`, and `step_collect` until it is told.
 #![tactic(auto)]
 
 mod batch;

@@ -1,6 +1,6 @@
 //! A machine with one caller. Its contracts rule out that the book is found taken.
 
-ghost use Rattle.std.specs.Prelude.{◌≡◌, true};
+ghost use Rattle.std.specs.Prelude.{◌≡◌, true, length, IfSome};
 ghost use Rattle.combiner.specs.Standing.{IsIdle, HasLeft, callers_of};
 
 use super::asking::{polls, polls_idle, posts, stands_at};
@@ -63,15 +63,35 @@ fn call_alone(
     }
 }
 
-/// The only caller always gets the book.
+/// The only caller counts its answered calls by a look.
+fn count_alone(shared: &Shared, caller: &mut Caller) -> u64
+    requires machine { caller.old.machine ≡ shared.now }
+    requires alone { callers_of shared.now ≡ 1 }
+    requires idle { IsIdle caller.old }
+    ensures counted { result ≡ length caller.new.own }
+    ensures machine { caller.new.machine ≡ shared.now }
+{
+    shared.look(caller)
+}
+
+/// The only caller always gets the book, which has its answered calls and no others where none is left.
 fn close_alone(shared: Shared, caller: Caller) -> Book
     requires machine { caller.machine ≡ shared }
     requires alone { callers_of shared ≡ 1 }
+    ensures counted { IsIdle caller → length result.history ≡ length caller.own }
 {
     let Ok(book) = shared.close(caller) else {
         unreachable!()
     };
     book
+}
+
+/// A machine that nobody called has an empty history.
+fn unused_book(alloc: Global) -> Option<Book>
+    ensures { IfSome result (λ book. length book.history ≡ 0) }
+{
+    let (shared, caller) = one(alloc)?;
+    Some(close_alone(shared, caller))
 }
 
 /// Whether the call of this line is handed back, since one is left.
@@ -107,5 +127,13 @@ fn one_caller_calls(rt: HostRuntime) -> Result<(), Fail> {
     let call = Call::read(rt.alloc(), b"len_fov a")?;
     let (place, reply) = call_alone(&rt, rt.alloc(), &shared, &mut caller, call).ok_or("memory")?;
     assert!(rt; place == 0 && matches!(&reply, Reply::Fault(_)));
+    assert!(rt; count_alone(&shared, &mut caller) == 1);
+    Ok(())
+}
+
+#[test]
+fn nobody_calls(rt: HostRuntime) -> Result<(), Fail> {
+    let book = unused_book(rt.alloc()).ok_or("memory")?;
+    assert!(rt; book.is_empty());
     Ok(())
 }
