@@ -1,6 +1,6 @@
 -- Outcomes that are told, the last one first.
 -- `telling_last` says whose the last one is, and `telling_next` what stands once it is told.
-use Rattle.std.proofs.Common.{◌≡◌, ◌≢◌, ℕ, zero, suc, ◌+◌, ◌<◌, ◌==◌, Bool, true, false, cond, List, [], ◌∷◌, ◌++◌, map, length, take, get_or, append_assoc, append-nil, add-one, lt_of_not-le, Option, Some, None, refl, sym, ap, ◌∙◌, subst, arith, eq-eqb, ne_eqb, length-append}
+use Rattle.std.proofs.Common.{◌≡◌, ◌≢◌, ℕ, zero, suc, ◌+◌, ◌<◌, ◌==◌, Bool, true, false, cond, List, [], ◌∷◌, ◌++◌, map, length, take, get_or, append_assoc, append-nil, lt_of_not-le, Option, Some, None, refl, sym, ap, ◌∙◌, subst, arith, eq-eqb, ne_eqb, length-append}
 use mathlib.Core.List.{map-append}
 use Rattle.cvl_text.specs.declared.call.Call.{Call}
 use Rattle.call_history.specs.declared.request.Request.{Request}
@@ -59,60 +59,60 @@ distinct_last [] i call d = refl
 distinct_last (t ∷ ts) i call d = let front = request_by-front t.caller i ts call d.0 in
     ap (λ b. cond {A = Option (List Call)} b (Some (t.call ∷ [])) (request_by i ts)) (ne_eqb t.caller i front.0) ∙ distinct_last ts i call d.1
 
--- what is next to be told
+-- What is next to be told: the outcome of the caller whose number stands at place n
 pub record Next (callers : ℕ) (now : Known) (n : ℕ) (numbers : List ℕ) (o : Outcome) : Type 0 where
   pub earlier : List Request
   pub call : Call
-  pub number : ℕ
-  pub number_is : get_or numbers n 0 ≡ number
-  pub last : (pass_in now).taken ≡ earlier ++ request number call ∷ []
-  pub outcome : outcome_by number (pass_in now).asked (pass_in now).outcomes ≡ Some o
-  pub inside : number < callers
+  pub last : (pass_in now).taken ≡ earlier ++ request (get_or numbers n 0) call ∷ []
+  pub outcome : outcome_by (get_or numbers n 0) (pass_in now).asked (pass_in now).outcomes ≡ Some o
+  pub inside : get_or numbers n 0 < callers
   pub before_numbers : take n numbers ≡ map asker earlier
   pub length_is : length earlier ≡ n
 
-pub telling_last : (callers : ℕ) (before now : Known) (outcomes os : List Outcome) (o : Outcome) (numbers : List ℕ) (count n : ℕ) → count ≡ n + 1 → outcomes ≡ os ++ o ∷ []
-    → Telling callers before now outcomes numbers count → Next callers now n numbers o
-telling_last callers before now outcomes os o numbers count n next is t =
-    let counted = t.counted in
+pub telling_last : (callers : ℕ) (before now : Known) (outcomes os : List Outcome) (o : Outcome) (numbers : List ℕ) (n : ℕ) → n ≡ length os → outcomes ≡ os ++ o ∷ []
+    → Telling callers before now outcomes numbers (length outcomes) → Next callers now n numbers o
+telling_last callers before now outcomes os o numbers n size is t =
+    let os_size : length outcomes ≡ length os + 1 = ap length is ∙ length-append os (o ∷ []) in
+    let paired = t.paired in
     let last = snoc (pass_in now).taken (omega arith) in
     let ts : List Request = last.0 in let r : Request = last.1 in
     let sizes : length (pass_in now).taken ≡ length ts + 1 = ap length last.2 ∙ length-append ts (r ∷ []) in
-    let os_size : length outcomes ≡ length os + 1 = ap length is ∙ length-append os (o ∷ []) in
-    let paired = t.paired in
+    let count : suc n ≡ length outcomes = omega arith in
     let numbers_are : take (suc n) numbers ≡ map asker ts ++ r.caller ∷ [] =
-    ap (λ (k : ℕ). take k numbers) (sym (next ∙ add-one n)) ∙ (t.numbered ∙ (ap (map asker) last.2 ∙ map-append asker ts (r ∷ []))) in
+    ap (λ (k : ℕ). take k numbers) count ∙ (t.numbered ∙ (ap (map asker) last.2 ∙ map-append asker ts (r ∷ []))) in
     let named = take_init numbers (map asker ts) r.caller n numbers_are (length-map_askers ts ∙ omega arith) in
     let fresh = distinct_last ts r.caller r.call (subst IsDistinct last.2 t.distinct) in
     let asks = middle_asks ts [] r.caller r.call in
+    let told = subst (λ (z : List Request × (List Outcome)). outcome_by r.caller z.0 z.1 ≡ Some o)
+    (λ j. (sym (t.asked_is ∙ (ap (λ l. l ++ t.asked_later) last.2 ∙ append_assoc ts (r ∷ []) t.asked_later)) j, sym (t.outcomes_are ∙ (ap (λ l. l ++ t.told_later) is ∙ append_assoc os (o ∷ []) t.told_later)) j))
+    (outcome_by-at ts os r o t.asked_later t.told_later (omega arith) fresh) in
+    let below : r.caller < callers = lt_of_not-le (λ far. absurd (cc (sym asks.1 ∙ (ap (request_by r.caller) (sym last.2) ∙ t.untaken r.caller far)))) in
     record {
       earlier = ts;
       call = r.call;
-      number = r.caller;
-      number_is = named.1;
-      last = last.2;
-      outcome = subst (λ (z : List Request × (List Outcome)). outcome_by r.caller z.0 z.1 ≡ Some o)
-          (λ j. (sym (t.asked_is ∙ (ap (λ l. l ++ t.asked_later) last.2 ∙ append_assoc ts (r ∷ []) t.asked_later)) j, sym (t.outcomes_are ∙ (ap (λ l. l ++ t.told_later) is ∙ append_assoc os (o ∷ []) t.told_later)) j))
-          (outcome_by-at ts os r o t.asked_later t.told_later (omega arith) fresh);
-      inside = lt_of_not-le (λ far. absurd (cc (sym asks.1 ∙ (ap (request_by r.caller) (sym last.2) ∙ t.untaken r.caller far))));
+      last = last.2 ∙ ap (λ (k : ℕ). ts ++ request k r.call ∷ []) (sym named.1);
+      outcome = ap (λ (k : ℕ). outcome_by k (pass_in now).asked (pass_in now).outcomes) named.1 ∙ told;
+      inside = subst (λ (k : ℕ). k < callers) (sym named.1) below;
       before_numbers = named.0;
       length_is = omega arith;
     }
 
 -- one more was told
-pub telling_next : (callers : ℕ) (before now now' : Known) (outcomes os : List Outcome) (o : Outcome) (numbers : List ℕ) (count n : ℕ) → count ≡ n + 1 → outcomes ≡ os ++ o ∷ []
-    → (next : Next callers now n numbers o) → now' ≡ passing now (strikes (pass_in now) next.number) → Telling callers before now outcomes numbers count → Telling callers before now' os numbers n
-telling_next callers before now now' outcomes os o numbers count n is_next is next told t =
-    let r : Request = request next.number next.call in
-    let left = all_but_last next.earlier next.number next.call (subst IsDistinct next.last t.distinct) in
-    let taken : all_but next.number (pass_in now).taken ≡ next.earlier = ap (all_but next.number) next.last ∙ left.0 in
+pub telling_next : (callers : ℕ) (before now now' : Known) (outcomes os : List Outcome) (o : Outcome) (numbers : List ℕ) (n : ℕ) → n ≡ length os → outcomes ≡ os ++ o ∷ []
+    → Next callers now n numbers o → now' ≡ passing now (strikes (pass_in now) (get_or numbers n 0)) → Telling callers before now outcomes numbers (length outcomes)
+    → Telling callers before now' os numbers (length os)
+telling_next callers before now now' outcomes os o numbers n size is next told t =
+    let number : ℕ = get_or numbers n 0 in
+    let r : Request = request number next.call in
+    let left = all_but_last next.earlier number next.call (subst IsDistinct next.last t.distinct) in
+    let taken : all_but number (pass_in now).taken ≡ next.earlier = ap (all_but number) next.last ∙ left.0 in
     let sizes : length (pass_in now).taken ≡ length next.earlier + 1 = ap length next.last ∙ length-append next.earlier (r ∷ []) in
     let os_size : length outcomes ≡ length os + 1 = ap length is ∙ length-append os (o ∷ []) in
-    let paired = t.paired in let counted = t.counted in
-    let short : length (all_but next.number (pass_in now).taken) ≡ length next.earlier = ap length taken in
-    subst (λ (k : Known). Telling callers before k os numbers n) (sym told) record {
+    let paired = t.paired in let same = next.length_is in
+    let short : length (all_but number (pass_in now).taken) ≡ length next.earlier = ap length taken in
+    subst (λ (k : Known). Telling callers before k os numbers (length os)) (sym told) record {
       has = refl;
-      now_is = ap (λ (k : Known). passing k (strikes (pass_in now) next.number)) t.now_is;
+      now_is = ap (λ (k : Known). passing k (strikes (pass_in now) number)) t.now_is;
       line_is = t.line_is;
       tried_is = t.tried_is;
       committed = t.committed;
@@ -120,9 +120,9 @@ telling_next callers before now now' outcomes os o numbers count n is_next is ne
       told_later = o ∷ t.told_later;
       asked_is = t.asked_is ∙ (ap (λ l. l ++ t.asked_later) next.last ∙ (append_assoc next.earlier (r ∷ []) t.asked_later ∙ ap (λ l. l ++ r ∷ t.asked_later) (sym taken)));
       outcomes_are = t.outcomes_are ∙ (ap (λ l. l ++ t.told_later) is ∙ append_assoc os (o ∷ []) t.told_later);
-      untaken = λ k far. ap (request_by k) taken ∙ (request_by-front k next.number next.earlier next.call (ap (request_by k) (sym next.last) ∙ t.untaken k far)).1;
+      untaken = λ k far. ap (request_by k) taken ∙ (request_by-front k number next.earlier next.call (ap (request_by k) (sym next.last) ∙ t.untaken k far)).1;
       distinct = subst IsDistinct (sym taken) left.1;
       paired = omega arith;
-      numbered = next.before_numbers ∙ ap (map asker) (sym taken);
+      numbered = ap (λ (k : ℕ). take k numbers) (sym size) ∙ (next.before_numbers ∙ ap (map asker) (sym taken));
       counted = omega arith;
     }

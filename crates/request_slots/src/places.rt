@@ -5,7 +5,7 @@ ghost use Rattle.request_slots.specs.Stages.{own_word, own_slot};
 
 /// The word of the lock: `FREE`, or 1 more than the number of the caller that has the desk.
 pub(crate) const LOCK: usize = 0;
-
+/// The lock while nobody has the desk.
 pub(crate) const FREE: u64 = 0;
 /// The word of the length of the history.
 pub(crate) const LENGTH: usize = 1;
