@@ -1,6 +1,6 @@
--- How workers end, and what that makes of the run. `end_faults`: the fault of the lowest; `worked_machines`, `met_closer` and
+-- How workers end, and what that makes of the run. `worked_machines`, `met_closer` and
 -- `met_alone`: what their callers are when they meet; `closes` and `closes_nothing`: a closed book is that of a settled run.
-use Rattle.std.proofs.Common.{◌⊎◌, inl, inr, ◌≡◌, ℕ, zero, suc, ◌+◌, ◌<◌, List, [], ◌∷◌, ◌++◌, map, length, slice_index_or, Vec, Result, Ok, Err, refl, sym, ap, ◌∙◌, subst, arith, length-append}
+use Rattle.std.proofs.Common.{◌≡◌, ℕ, zero, suc, ◌+◌, List, [], ◌∷◌, map, length, slice_index_or, Vec, Result, Ok, Err, refl, sym, ap, ◌∙◌, subst, arith}
 use Rattle.std.specs.Prelude.{All, IfOk}
 use Rattle.std.specs.Global.{Global}
 use Rattle.std.specs.List.{AllZip}
@@ -17,11 +17,10 @@ use Rattle.call_history.proofs.Beginnings.{begins_trans}
 use Rattle.request_slots.specs.Seating.{Machine}
 use Rattle.combiner.specs.Standing.{Standing, IsIdle, callers_of}
 use Rattle.script_main.specs.declared.fault.RunFault.{RunFault}
-use Rattle.script_main.specs.declared.fault.RunFault.TheVariants as stops
 use Rattle.script_main.specs.declared.settled.Settled.{Settled}
 use Rattle.script_main.specs.declared.work.Worked.{Worked}
-use Rattle.script_main.specs.Settles.{IsSettled, IsThreadsFault}
-use Rattle.script_main.specs.Workers.{reply_count, HasDone, IsEnd, IsWorkFault, EachAt, AreEnds, IsFirstFault, HasMet, HaveMet, IsClosed}
+use Rattle.script_main.specs.Settles.{IsSettled}
+use Rattle.script_main.specs.Workers.{reply_count, HasDone, IsEnd, EachAt, AreEnds, HasMet, HaveMet, IsClosed}
 use Rattle.script_main.proofs.WorkLemmas.{length-replies_by}
 use Rattle.script_main.proofs.SettleLemmas.{IsTold, count_first, each_length, settles}
 
@@ -137,32 +136,6 @@ pub closes : (result : Result Settled RunFault) (m : Machine) (room : ℕ) (ends
 closes (Ok run) m room ends workers closer replies is size met same closed = λ scripts each.
     subst (λ (v : Vec (Vec Reply Global) Global). IsSettled room scripts v run.book) (sym same) (closed_settles m room scripts ends workers closer replies run.book is each size met closed)
 closes (Err fault) m room ends workers closer replies is size met same closed = tt
-
-fault_at : (m : Machine) (room k : ℕ) (scripts : List (List Call)) (before : List Worked) (fault : RunFault) (behind : List (Result Worked RunFault))
-    → EachAt (IsEnd m room) k scripts (map Ok before ++ Err fault ∷ behind) → IsWorkFault (k + length before) fault
-fault_at m room k [] [] fault behind each = absurd each
-fault_at m room k [] (w ∷ ws) fault behind each = absurd each
-fault_at m room k (s ∷ ss) [] fault behind each = subst (λ (n : ℕ). IsWorkFault n fault) (omega arith) each.0
-fault_at m room k (s ∷ ss) (w ∷ ws) fault behind each = subst (λ (n : ℕ). IsWorkFault n fault) (omega arith) (fault_at m room (k + 1) ss ws fault behind each.1)
-
-fault_of : (n k : ℕ) (fault : RunFault) → k < n → IsWorkFault k fault → IsThreadsFault n fault
-fault_of n k (stops.Stopped worker) lt is = omega arith
-fault_of n k stops.OutOfMemory lt is = tt
-fault_of n k (stops.BadLine number) lt is = absurd is
-fault_of n k stops.Read lt is = absurd is
-fault_of n k stops.Write lt is = absurd is
-fault_of n k stops.Unfinished lt is = absurd is
-
-pub end_faults : (m : Machine) (room : ℕ) (scripts : List (List Call)) (ends : List (Result Worked RunFault)) (fault : RunFault) → AreEnds m room scripts ends
-    → (fault ≡ stops.OutOfMemory) ⊎ IsFirstFault fault ends → IsThreadsFault (length ends) fault
-end_faults m room scripts ends fault each (inl memory) = subst (IsThreadsFault (length ends)) (sym memory) tt
-end_faults m room scripts ends fault each (inr first) =
-    let at = fault_at m room 0 scripts first.before fault first.behind (subst (EachAt (IsEnd m room) 0 scripts) first.ends_are each) in
-    let done : List (Result Worked RunFault) = map Ok first.before in
-    let behind : List (Result Worked RunFault) = Err fault ∷ first.behind in
-    let mapped : length done ≡ length first.before = length-map first.before Ok in
-    let size : length ends ≡ length done + length behind = ap length first.ends_are ∙ length-append done behind in
-    fault_of (length ends) (0 + length first.before) fault (omega (arith, size, mapped)) at
 
 -- a machine whose one caller has done nothing
 pub closes_nothing : (result : Result Settled RunFault) (m : Machine) (room : ℕ) (closer : Standing) (replies : Vec (Vec Reply Global) Global) → closer.room ≡ room → replies.items ≡ []

@@ -34,20 +34,3 @@ halt-behind stops.Read n i text rest lines more a h = absurd h
 halt-behind stops.Write n i text rest lines more a h = absurd h
 halt-behind (stops.Stopped worker) n i text rest lines more a h = absurd h
 halt-behind stops.Unfinished n i text rest lines more a h = absurd h
-
--- neither a read nor a write stops at a line
-pub halt-no_read : (fault : RunFault) (n : ℕ) (script : List ℕ) → IsHalt fault n script → fault ≡ stops.Read → ⊥
-halt-no_read (stops.BadLine k) n script h is = absurd cc
-halt-no_read stops.OutOfMemory n script h is = absurd cc
-halt-no_read stops.Read n script h is = h
-halt-no_read stops.Write n script h is = h
-halt-no_read (stops.Stopped worker) n script h is = absurd h
-halt-no_read stops.Unfinished n script h is = absurd h
-
-pub halt-no_write : (fault : RunFault) (n : ℕ) (script : List ℕ) → IsHalt fault n script → fault ≡ stops.Write → ⊥
-halt-no_write (stops.BadLine k) n script h is = absurd cc
-halt-no_write stops.OutOfMemory n script h is = absurd cc
-halt-no_write stops.Read n script h is = h
-halt-no_write stops.Write n script h is = h
-halt-no_write (stops.Stopped worker) n script h is = absurd h
-halt-no_write stops.Unfinished n script h is = absurd h

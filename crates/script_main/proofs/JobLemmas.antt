@@ -1,6 +1,6 @@
 -- Jobs, and how they end. `newcomers_length` counts the callers of a machine, `jobs_new`: the caller of each job is new;
--- `ends_each`: the worker of each job ends as the one with its number and script; `ends_size` counts them.
-use Rattle.std.proofs.Common.{◌≡◌, ℕ, zero, suc, ◌+◌, List, [], ◌∷◌, ◌++◌, map, length, Vec, Result, Ok, Err, refl, sym, ap, ◌∙◌, subst, arith, length-append}
+-- `ends_each`: the worker of each job ends as the one with its number and script, and as its gate may let it; `ends_size` counts them.
+use Rattle.std.proofs.Common.{◌≡◌, ℕ, zero, suc, ◌+◌, Bool, List, [], ◌∷◌, ◌++◌, map, length, Vec, Result, Ok, Err, refl, sym, ap, ◌∙◌, subst, arith, length-append}
 use Rattle.std.specs.Prelude.{All, IfOk}
 use Rattle.std.specs.Global.{Global}
 use Rattle.std.specs.List.{AllZip}
@@ -14,7 +14,7 @@ use Rattle.script_main.specs.declared.settled.Settled.{Settled}
 use Rattle.script_main.specs.declared.work.Worked.{Worked}
 use Rattle.script_main.specs.declared.threads.Job.{Job}
 use Rattle.script_main.specs.Settles.{IsSettled}
-use Rattle.script_main.specs.Workers.{IsEnd, IsEndOf, EachAt, AreEnds}
+use Rattle.script_main.specs.Workers.{IsEnd, IsGated, Ends, IsEndOf, EachAt, AreEnds, AreGated}
 
 pub newcomers_length : (m : Machine) (room n : ℕ) → length (newcomers m room n) ≡ n
 newcomers_length m room zero = refl
@@ -46,30 +46,46 @@ newcomers_numbered : (m : Machine) (room n : ℕ) → AreNumbered 0 (newcomers m
 newcomers_numbered m room zero = tt
 newcomers_numbered m room (suc n) = let size = newcomers_length m room n in numbered_more 0 (newcomers m room n) (newcomer m room n) (newcomers_numbered m room n) (omega (arith, size))
 
-ends_from : (m : Machine) (room k : ℕ) (jobs : List Job) (scripts : List (Vec Call Global)) (ends : List (Result Worked RunFault)) → AreNumbered k (map (λ (job : Job). job.caller) jobs)
-    → map (λ (job : Job). job.script) jobs ≡ scripts → AllZip (IsEndOf m room) jobs ends → EachAt (IsEnd m room) k (map (λ (own : Vec Call Global). own.items) scripts) ends
-ends_from m room k [] [] [] numbered are each = tt
-ends_from m room k [] [] (e ∷ es) numbered are each = absurd each
-ends_from m room k [] (s ∷ ss) ends numbered are each = absurd (cc are)
-ends_from m room k (j ∷ js) [] ends numbered are each = absurd (cc are)
-ends_from m room k (j ∷ js) (s ∷ ss) [] numbered are each = absurd each
-ends_from m room k (j ∷ js) (s ∷ ss) (e ∷ es) numbered are each =
+ends_from : (may_answer : ℕ → ℕ → Bool → Type 0) (m : Machine) (room k : ℕ) (jobs : List Job) (scripts : List (Vec Call Global)) (ends : List (Result Worked RunFault)) → AreNumbered k (map (λ (job : Job). job.caller) jobs)
+    → map (λ (job : Job). job.script) jobs ≡ scripts → AllZip (IsEndOf may_answer m room) jobs ends → EachAt (Ends may_answer m room) k (map (λ (own : Vec Call Global). own.items) scripts) ends
+ends_from may_answer m room k [] [] [] numbered are each = tt
+ends_from may_answer m room k [] [] (e ∷ es) numbered are each = absurd each
+ends_from may_answer m room k [] (s ∷ ss) ends numbered are each = absurd (cc are)
+ends_from may_answer m room k (j ∷ js) [] ends numbered are each = absurd (cc are)
+ends_from may_answer m room k (j ∷ js) (s ∷ ss) [] numbered are each = absurd each
+ends_from may_answer m room k (j ∷ js) (s ∷ ss) (e ∷ es) numbered are each =
     let first : j.script ≡ s = cc are in
     let others : map (λ (job : Job). job.script) js ≡ ss = cc are in (
-      subst (λ (z : ℕ × (List Call)). IsEnd m room z.0 z.1 e) (λ i. (numbered.0 i, (first i).items)) each.0,
-      ends_from m room (k + 1) js ss es numbered.1 others each.1,
+      subst (λ (z : ℕ × (List Call)). Ends may_answer m room z.0 z.1 e) (λ i. (numbered.0 i, (first i).items)) each.0,
+      ends_from may_answer m room (k + 1) js ss es numbered.1 others each.1,
     )
 
-pub ends_each : (m : Machine) (room n : ℕ) (jobs : List Job) (callers : List Standing) (scripts : List (Vec Call Global)) (ends : List (Result Worked RunFault)) → callers ≡ newcomers m room n
-    → map (λ (job : Job). job.caller) jobs ≡ callers → map (λ (job : Job). job.script) jobs ≡ scripts → AllZip (IsEndOf m room) jobs ends
-    → AreEnds m room (map (λ (own : Vec Call Global). own.items) scripts) ends
-ends_each m room n jobs callers scripts ends new are scripts_are each =
-    ends_from m room 0 jobs scripts ends (subst (AreNumbered 0) (sym (are ∙ new)) (newcomers_numbered m room n)) scripts_are each
+ends_all : (may_answer : ℕ → ℕ → Bool → Type 0) (m : Machine) (room n : ℕ) (jobs : List Job) (callers : List Standing) (scripts : List (Vec Call Global)) (ends : List (Result Worked RunFault)) → callers ≡ newcomers m room n
+    → map (λ (job : Job). job.caller) jobs ≡ callers → map (λ (job : Job). job.script) jobs ≡ scripts → AllZip (IsEndOf may_answer m room) jobs ends
+    → EachAt (Ends may_answer m room) 0 (map (λ (own : Vec Call Global). own.items) scripts) ends
+ends_all may_answer m room n jobs callers scripts ends new are scripts_are each =
+    ends_from may_answer m room 0 jobs scripts ends (subst (AreNumbered 0) (sym (are ∙ new)) (newcomers_numbered m room n)) scripts_are each
 
-pub ends_size : (m : Machine) (room n : ℕ) (jobs : List Job) (callers : List Standing) (ends : List (Result Worked RunFault)) → callers ≡ newcomers m room n
-    → map (λ (job : Job). job.caller) jobs ≡ callers → AllZip (IsEndOf m room) jobs ends → length ends ≡ n
-ends_size m room n jobs callers ends new are each =
-    AllZip-long (IsEndOf m room) jobs ends each ∙ (sym (length-map jobs (λ (job : Job). job.caller)) ∙ (ap length are ∙ (ap length new ∙ newcomers_length m room n)))
+each_of : {A B : Type 0} (P Q : ℕ → A → B → Type 0) (k : ℕ) (xs : List A) (ys : List B) → ((k : ℕ) (x : A) (y : B) → P k x y → Q k x y) → EachAt P k xs ys → EachAt Q k xs ys
+each_of P Q k [] [] then each = tt
+each_of P Q k [] (y ∷ ys) then each = absurd each
+each_of P Q k (x ∷ xs) [] then each = absurd each
+each_of P Q k (x ∷ xs) (y ∷ ys) then each = (then k x y each.0, each_of P Q (k + 1) xs ys then each.1)
+
+pub ends_each : (may_answer : ℕ → ℕ → Bool → Type 0) (m : Machine) (room n : ℕ) (jobs : List Job) (callers : List Standing) (scripts : List (Vec Call Global)) (ends : List (Result Worked RunFault)) → callers ≡ newcomers m room n
+    → map (λ (job : Job). job.caller) jobs ≡ callers → map (λ (job : Job). job.script) jobs ≡ scripts → AllZip (IsEndOf may_answer m room) jobs ends
+    → AreEnds m room (map (λ (own : Vec Call Global). own.items) scripts) ends × AreGated may_answer (map (λ (own : Vec Call Global). own.items) scripts) ends
+ends_each may_answer m room n jobs callers scripts ends new are scripts_are each =
+    let lists : List (List Call) = map (λ (own : Vec Call Global). own.items) scripts in
+    let all = ends_all may_answer m room n jobs callers scripts ends new are scripts_are each in (
+      each_of (Ends may_answer m room) (IsEnd m room) 0 lists ends (λ k script end h. h.done) all,
+      each_of (Ends may_answer m room) (λ k script end. IsGated may_answer k (length script) end) 0 lists ends (λ k script end h. h.gated) all,
+    )
+
+pub ends_size : (may_answer : ℕ → ℕ → Bool → Type 0) (m : Machine) (room n : ℕ) (jobs : List Job) (callers : List Standing) (ends : List (Result Worked RunFault)) → callers ≡ newcomers m room n
+    → map (λ (job : Job). job.caller) jobs ≡ callers → AllZip (IsEndOf may_answer m room) jobs ends → length ends ≡ n
+ends_size may_answer m room n jobs callers ends new are each =
+    AllZip-long (IsEndOf may_answer m room) jobs ends each ∙ (sym (length-map jobs (λ (job : Job). job.caller)) ∙ (ap length are ∙ (ap length new ∙ newcomers_length m room n)))
 
 -- what holds of a run for all scripts whose workers end so holds for these
 pub settled_for : (result : Result Settled RunFault) (m : Machine) (room : ℕ) (scripts : List (List Call)) (ends : List (Result Worked RunFault)) → AreEnds m room scripts ends

@@ -1,6 +1,7 @@
 -- The end of a run whose callers have threads of their own. `reports`: a report that is written is that of the script;
--- `counts`: a write that failed was counted.
-use Rattle.std.proofs.Common.{inr, ◌≡◌, ℕ, List, [], Vec, Option, Some, None, Result, Ok, Err, refl, subst, arith}
+-- `counts` and `unread_counts`: a read or a write that failed
+-- was counted, and no worker was stopped.
+use Rattle.std.proofs.Common.{inr, ◌≡◌, ◌<◌, ℕ, List, [], Vec, Option, Some, None, Result, Ok, Err, refl, subst, arith}
 use Rattle.std.specs.Prelude.{IfSome, OnOk, OnErr, IfErr}
 use Rattle.std.specs.Global.{Global}
 use Rattle.cvl_text.specs.declared.call.Call.{Call}
@@ -48,5 +49,15 @@ counts (Err stops.OutOfMemory) reads reads' writes mid writes' same fault = tt
 counts (Err stops.Write) reads reads' writes mid writes' same fault = omega (arith, same, fault)
 counts (Err (stops.BadLine number)) reads reads' writes mid writes' same fault = tt
 counts (Err stops.Read) reads reads' writes mid writes' same fault = absurd fault
-counts (Err (stops.Stopped worker)) reads reads' writes mid writes' same fault = tt
+counts (Err (stops.Stopped worker)) reads reads' writes mid writes' same fault = absurd fault
 counts (Err stops.Unfinished) reads reads' writes mid writes' same fault = tt
+
+-- the counts where a script was not read
+pub unread_counts : (fault : RunFault) (reads reads' writes writes' : ℕ) → (fault ≡ stops.Read → reads < reads') → (fault ≡ stops.Write → writes < writes') → ((worker : ℕ) → fault ≡ stops.Stopped worker → ⊥)
+    → IsCounted (Err fault) reads reads' writes writes'
+unread_counts stops.Read reads reads' writes writes' cut failed never = cut refl
+unread_counts stops.Write reads reads' writes writes' cut failed never = failed refl
+unread_counts (stops.Stopped worker) reads reads' writes writes' cut failed never = never worker refl
+unread_counts (stops.BadLine number) reads reads' writes writes' cut failed never = tt
+unread_counts stops.OutOfMemory reads reads' writes writes' cut failed never = tt
+unread_counts stops.Unfinished reads reads' writes writes' cut failed never = tt

@@ -108,17 +108,21 @@ stop-behind stops.Unfinished m k n i text made rest more waiting old mid new a w
 pub handed-out : {T : Type 0} (result : Result T RunFault) (P : RunFault → Type 0) (fault given : RunFault) → result ≡ Err given → given ≡ fault → P fault → IfErr result P
 handed-out {T = T} result P fault given e d h = subst (λ (r : Result T RunFault). IfErr r P) (sym e) (subst P (sym d) h)
 
+-- what holds of the fault that a result may be holds of the one that it is
+pub handed-over : {T : Type 0} (result : Result T RunFault) (P : RunFault → Type 0) (fault : RunFault) → IfErr result P → result ≡ Err fault → P fault
+handed-over {T = T} result P fault h is = subst (λ (r : Result T RunFault). IfErr r P) is h
+
 pub on-err : {T E P : Type 0} (result : Result T E) → P → OnErr result P
 on-err (Ok x) h = tt
 on-err (Err e) h = h
 
--- no read stops the serving of lines, and a write only where it failed
-pub counted-served : (result : Result (Unit {0}) RunFault) (reads reads' writes writes' : ℕ) (Stops : RunFault → Type 0) → (Stops stops.Read → ⊥) → IfErr result Stops
+-- no read and no gate stops the serving of lines, and a write only where it failed
+pub counted-served : (result : Result (Unit {0}) RunFault) (reads reads' writes writes' : ℕ) (Stops : RunFault → Type 0) → (Stops stops.Read → ⊥) → ((worker : ℕ) → Stops (stops.Stopped worker) → ⊥) → IfErr result Stops
     → (result ≡ Err stops.Write → writes < writes') → IsCounted result reads reads' writes writes'
-counted-served (Ok done) reads reads' writes writes' Stops none s failed = tt
-counted-served (Err (stops.BadLine n)) reads reads' writes writes' Stops none s failed = tt
-counted-served (Err stops.OutOfMemory) reads reads' writes writes' Stops none s failed = tt
-counted-served (Err stops.Read) reads reads' writes writes' Stops none s failed = absurd (none s)
-counted-served (Err stops.Write) reads reads' writes writes' Stops none s failed = failed refl
-counted-served (Err (stops.Stopped worker)) reads reads' writes writes' Stops none s failed = tt
-counted-served (Err stops.Unfinished) reads reads' writes writes' Stops none s failed = tt
+counted-served (Ok done) reads reads' writes writes' Stops none never s failed = tt
+counted-served (Err (stops.BadLine n)) reads reads' writes writes' Stops none never s failed = tt
+counted-served (Err stops.OutOfMemory) reads reads' writes writes' Stops none never s failed = tt
+counted-served (Err stops.Read) reads reads' writes writes' Stops none never s failed = absurd (none s)
+counted-served (Err stops.Write) reads reads' writes writes' Stops none never s failed = failed refl
+counted-served (Err (stops.Stopped worker)) reads reads' writes writes' Stops none never s failed = absurd (never worker s)
+counted-served (Err stops.Unfinished) reads reads' writes writes' Stops none never s failed = tt

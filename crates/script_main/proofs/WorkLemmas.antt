@@ -1,6 +1,6 @@
--- What a worker is told, as it goes on. `goes_on`: one more call is answered; `told_nothing`: a new caller has done nothing;
--- `replies_same`: a longer history without more calls of a caller has the same replies to it.
-use Rattle.std.proofs.Common.{◌≡◌, ℕ, suc, ◌+◌, ◌==◌, Bool, true, false, cond, List, [], ◌∷◌, ◌++◌, map, length, refl, sym, ap, ◌∙◌, subst, arith, append_assoc, append-nil, length-append}
+-- What a worker is told, as it goes on. `goes_on`: one more call is answered; `comes_first` and `work_more`: how
+-- it goes through its script; `replies_same`: a longer history without more calls of a caller has the same replies to it.
+use Rattle.std.proofs.Common.{◌≡◌, ℕ, suc, ◌+◌, ◌==◌, Bool, true, false, cond, List, [], ◌∷◌, ◌++◌, map, length, refl, sym, ap, ◌∙◌, subst, arith, append_assoc, append-nil, length-append, below_more}
 use Rattle.std.proofs.lemmas.List.{map-append, nil_from_length}
 use Rattle.vector_memory.specs.States.{State, empty}
 use Rattle.cvl_text.specs.declared.call.Call.{Call}
@@ -18,6 +18,7 @@ use Rattle.request_slots.specs.declared.known.Phase.TheVariants.{Left}
 use Rattle.combiner.specs.Standing.{Standing, IsIdle, HasLeft, IsNewAt, Rests}
 use Rattle.combiner.specs.Says.{leaving, IsAnsweredAtLast}
 use Rattle.script_main.specs.Settles.{replies_by}
+use Rattle.script_main.specs.Gates.{MayPass}
 use Rattle.script_main.specs.Workers.{HasDone, GoesOn}
 
 pub replies_by-append : (k : ℕ) (m : State) (xs ys : List Entry) → replies_by k m (xs ++ ys) ≡ replies_by k m xs ++ replies_by k (replay_from m xs) ys
@@ -103,7 +104,7 @@ replies_one k room seen history before block own call answer p had ends is mine 
 pub left_by_leaving : (call : Call) (c b : Standing) → b ≡ leaving c call → HasLeft b
 left_by_leaving call c b is = (call, c.seen, ap (λ (z : Standing). z.phase) is)
 
-pub told_nothing : (m : Machine) (c : Standing) → IsNewAt m c.room c → HasDone m c.room c.number [] c []
+told_nothing : (m : Machine) (c : Standing) → IsNewAt m c.room c → HasDone m c.room c.number [] c []
 told_nothing m c new = record {
   machine_is = new.machine_is;
   room_is = refl;
@@ -138,18 +139,35 @@ goes_on c b d call place reply is machine number room idle rests a calls answers
       replies_are = ap (λ (l : List Answer). l ++ answer_of reply ∷ []) h.replies_are ∙ (sym one ∙ sym (replies_same c.number (empty c.room) a.history d.seen (calls ++ call ∷ []) a.whole owns mine));
     }
 
+-- Worker k has come so far in its script, with this rest of it: it has done the calls before that, with these replies, and its
+-- gate let it take those turns.
+pub record HasCome (may_answer : ℕ → ℕ → Bool → Type 0) (m : Machine) (room k : ℕ) (script rest : List Call) (c : Standing) (told : List Reply) : Type 0 where
+  pub calls : List Call
+  pub script_is : script ≡ calls ++ rest
+  pub done : HasDone m room k calls c (map answer_of told)
+  pub counted : length calls ≡ length told
+  pub passes : MayPass may_answer k (length told)
+
+pub comes_first : (may_answer : ℕ → ℕ → Bool → Type 0) (m : Machine) (script : List Call) (c : Standing) → IsNewAt m c.room c → HasCome may_answer m c.room c.number script script c []
+comes_first may_answer m script c new = record { calls = []; script_is = refl; done = told_nothing m c new; counted = refl; passes = λ turn lt. absurd (omega arith) }
+
 -- one more call of a script is done
-pub work_more : (m : Machine) (room k : ℕ) (script rest others : List Call) (call : Call) (c d : Standing) (told : List Reply) (reply : Reply) → rest ≡ call ∷ others
-    → (done : List Call) × (script ≡ done ++ rest) × HasDone m room k done c (map answer_of told) → GoesOn c call d reply
-    → (done : List Call) × (script ≡ done ++ others) × HasDone m room k done d (map answer_of (told ++ reply ∷ []))
-work_more m room k script rest others call c d told reply next had goes =
-    let done = had.0 in
-    let h = had.2 in
-    let here : HasDone c.machine c.room c.number done c (map answer_of told) =
-    subst (λ (z : Machine × ℕ × ℕ). HasDone z.0 z.1 z.2 done c (map answer_of told)) (λ i. (sym h.machine_is i, sym h.room_is i, sym h.number_is i)) h in
-    let more : HasDone m room k (done ++ call ∷ []) d (map answer_of told ++ answer_of reply ∷ []) =
-    subst (λ (z : Machine × ℕ × ℕ). HasDone z.0 z.1 z.2 (done ++ call ∷ []) d (map answer_of told ++ answer_of reply ∷ [])) (λ i. (h.machine_is i, h.room_is i, h.number_is i)) (goes done (map answer_of told) here) in (
-      done ++ call ∷ [],
-      had.1 ∙ (ap (λ (l : List Call). done ++ l) next ∙ sym (append_assoc done (call ∷ []) others)),
-      subst (λ (l : List Answer). HasDone m room k (done ++ call ∷ []) d l) (sym (map-append answer_of told (reply ∷ []))) more,
-    )
+pub work_more : (may_answer : ℕ → ℕ → Bool → Type 0) (m : Machine) (room k turn : ℕ) (script rest others : List Call) (call : Call) (c d : Standing) (told : List Reply) (reply : Reply) → rest ≡ call ∷ others
+    → turn ≡ length told → HasCome may_answer m room k script rest c told → GoesOn c call d reply → may_answer c.number turn true → HasCome may_answer m room k script others d (told ++ reply ∷ [])
+work_more may_answer m room k turn script rest others call c d told reply next at had goes passed =
+    let h = had.done in
+    let here : HasDone c.machine c.room c.number had.calls c (map answer_of told) =
+    subst (λ (z : Machine × ℕ × ℕ). HasDone z.0 z.1 z.2 had.calls c (map answer_of told)) (λ i. (sym h.machine_is i, sym h.room_is i, sym h.number_is i)) h in
+    let more : HasDone m room k (had.calls ++ call ∷ []) d (map answer_of told ++ answer_of reply ∷ []) =
+    subst (λ (z : Machine × ℕ × ℕ). HasDone z.0 z.1 z.2 (had.calls ++ call ∷ []) d (map answer_of told ++ answer_of reply ∷ [])) (λ i. (h.machine_is i, h.room_is i, h.number_is i))
+    (goes had.calls (map answer_of told) here) in
+    let longer : length (told ++ reply ∷ []) ≡ length told + 1 = length-append told (reply ∷ []) in
+    let passes : MayPass may_answer k (length told + 1) =
+    below_more (λ (t : ℕ). may_answer k t true) (length told) had.passes (subst (λ (z : ℕ × ℕ). may_answer z.0 z.1 true) (λ i. (h.number_is i, at i)) passed) in
+    record {
+      calls = had.calls ++ call ∷ [];
+      script_is = had.script_is ∙ (ap (λ (l : List Call). had.calls ++ l) next ∙ sym (append_assoc had.calls (call ∷ []) others));
+      done = subst (λ (l : List Answer). HasDone m room k (had.calls ++ call ∷ []) d l) (sym (map-append answer_of told (reply ∷ []))) more;
+      counted = length-append had.calls (call ∷ []) ∙ (ap (λ n. n + 1) had.counted ∙ sym longer);
+      passes = subst (MayPass may_answer k) (sym longer) passes;
+    }

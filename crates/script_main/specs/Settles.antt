@@ -1,5 +1,5 @@
 -- Settled runs: what worker threads come to that share one machine, a script for each worker.
-use Rattle.std.specs.Prelude.{◌≡◌, ℕ, ◌==◌, ◌<◌, List, [], ◌∷◌, length, slice_index_or, Vec, if◌then◌else◌}
+use Rattle.std.specs.Prelude.{◌≡◌, ℕ, ◌==◌, ◌<◌, Bool, List, [], ◌∷◌, length, slice_index_or, Vec, if◌then◌else◌}
 use Rattle.std.specs.Global.{Global}
 use Rattle.vector_memory.specs.States.{State, empty}
 use Rattle.cvl_text.specs.declared.call.Call.{Call}
@@ -12,6 +12,7 @@ use Rattle.call_history.specs.Callers.{calls_by}
 use Rattle.call_history.specs.Books.{BookState}
 use Rattle.script_main.specs.declared.fault.RunFault.{RunFault}
 use Rattle.script_main.specs.declared.fault.RunFault.TheVariants as stops
+use Rattle.script_main.specs.Gates.{MayStopFirst}
 use Rattle.script_main.specs.Reports.{answers_of}
 
 -- the replies along a history to the calls of one caller, in order, from this memory
@@ -29,11 +30,12 @@ pub record IsSettled (room : ℕ) (scripts : List (List Call)) (replies : Vec (V
   pub workers : length (answers_of replies) ≡ length scripts
   pub replies_are : (k : ℕ) → slice_index_or (answers_of replies) k [] ≡ replies_by k (empty room) book.history
 
--- why so many scripts were not run to their end
-abbrev pub IsThreadsFault : ℕ → RunFault → Type 0
-IsThreadsFault n (stops.Stopped worker) = worker < n
-IsThreadsFault n stops.OutOfMemory = Unit {0}
-IsThreadsFault n stops.Unfinished = 1 < n
-IsThreadsFault n (stops.BadLine number) = ⊥
-IsThreadsFault n stops.Read = ⊥
-IsThreadsFault n stops.Write = ⊥
+-- Why these scripts were not run to their end: the gate stopped a worker and none below it, memory was wanted, or the machine
+-- of several workers was not closed.
+abbrev pub IsThreadsFault : (ℕ → ℕ → Bool → Type 0) → List (List Call) → RunFault → Type 0
+IsThreadsFault may_answer scripts (stops.Stopped worker) = MayStopFirst may_answer scripts worker
+IsThreadsFault may_answer scripts stops.OutOfMemory = Unit {0}
+IsThreadsFault may_answer scripts stops.Unfinished = 1 < length scripts
+IsThreadsFault may_answer scripts (stops.BadLine number) = ⊥
+IsThreadsFault may_answer scripts stops.Read = ⊥
+IsThreadsFault may_answer scripts stops.Write = ⊥

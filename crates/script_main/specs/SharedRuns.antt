@@ -42,7 +42,7 @@ RunsShared (Err (stops.BadLine number)) room input left old new = (bad_line_of 0
 RunsShared (Err stops.OutOfMemory) room input left old new = IsUnwritten old new ⊎ HasBegunReport room input old new
 RunsShared (Err stops.Read) room input left old new = IsCutShort input left × IsUnwritten old new
 RunsShared (Err stops.Write) room input left old new = HasBegunBadLine input old new ⊎ HasBegunReport room input old new
-RunsShared (Err (stops.Stopped worker)) room input left old new = (bad_line_of 0 input ≡ None) × IsUnwritten old new
+RunsShared (Err (stops.Stopped worker)) room input left old new = ⊥
 RunsShared (Err stops.Unfinished) room input left old new = (bad_line_of 0 input ≡ None) × IsUnwritten old new
 
 -- What reading a script comes to, where the words on a bad line are written.

@@ -1,5 +1,5 @@
 -- Worker threads that share one machine: what each of them comes to, and how their callers meet.
-use Rattle.std.specs.Prelude.{◌≡◌, ℕ, ◌+◌, ◌≤◌, List, [], ◌∷◌, ◌++◌, length, map, Result, Ok, Err, Vec}
+use Rattle.std.specs.Prelude.{◌≡◌, ◌⊎◌, ℕ, ◌+◌, ◌<◌, ◌≤◌, Bool, false, List, [], ◌∷◌, ◌++◌, length, map, Result, Ok, Err, Vec}
 use Rattle.std.specs.Global.{Global}
 use Rattle.std.specs.List.{AllZip, sum_by}
 use Rattle.vector_memory.specs.States.{empty}
@@ -19,6 +19,7 @@ use Rattle.script_main.specs.declared.work.Worked.{Worked}
 use Rattle.script_main.specs.declared.threads.Job.{Job}
 use Rattle.script_main.specs.declared.threads.Started.{Started}
 use Rattle.script_main.specs.declared.threads.Started.TheVariants.{Runs, Refused}
+use Rattle.script_main.specs.Gates.{MayPass, MayStop}
 use Rattle.script_main.specs.Settles.{replies_by}
 
 -- The caller of this number is idle. Its answered calls are these, they are all its calls in what it has seen, and these are
@@ -37,35 +38,55 @@ abbrev pub GoesOn : Standing → Call → Standing → Reply → Type 0
 GoesOn c call d reply = (calls : List Call) (answers : List Answer) → HasDone c.machine c.room c.number calls c answers
     → HasDone c.machine c.room c.number (calls ++ call ∷ []) d (answers ++ answer_of reply ∷ [])
 
--- why worker k ends before its script does: its gate stopped it, or memory was wanted
-abbrev pub IsWorkFault : ℕ → RunFault → Type 0
-IsWorkFault k (stops.Stopped worker) = worker ≡ k
-IsWorkFault k stops.OutOfMemory = Unit {0}
-IsWorkFault k (stops.BadLine number) = ⊥
-IsWorkFault k stops.Read = ⊥
-IsWorkFault k stops.Write = ⊥
-IsWorkFault k stops.Unfinished = ⊥
+-- why worker k does not take a turn: its gate stopped it, or memory was wanted
+abbrev pub IsTurnFault : (ℕ → ℕ → Bool → Type 0) → ℕ → ℕ → RunFault → Type 0
+IsTurnFault may_answer k turn (stops.Stopped worker) = (worker ≡ k) × may_answer k turn false
+IsTurnFault may_answer k turn stops.OutOfMemory = Unit {0}
+IsTurnFault may_answer k turn (stops.BadLine number) = ⊥
+IsTurnFault may_answer k turn stops.Read = ⊥
+IsTurnFault may_answer k turn stops.Write = ⊥
+IsTurnFault may_answer k turn stops.Unfinished = ⊥
 
--- how worker k ends
+-- why worker k ends before its n calls are done: its gate stopped it, or memory was wanted
+abbrev pub IsWorkFault : (ℕ → ℕ → Bool → Type 0) → ℕ → ℕ → RunFault → Type 0
+IsWorkFault may_answer k n (stops.Stopped worker) = (worker ≡ k) × MayStop may_answer k n
+IsWorkFault may_answer k n stops.OutOfMemory = Unit {0}
+IsWorkFault may_answer k n (stops.BadLine number) = ⊥
+IsWorkFault may_answer k n stops.Read = ⊥
+IsWorkFault may_answer k n stops.Write = ⊥
+IsWorkFault may_answer k n stops.Unfinished = ⊥
+
+-- where worker k ended with no fault, it has done its script
 abbrev pub IsEnd : Machine → ℕ → ℕ → List Call → Result Worked RunFault → Type 0
 IsEnd m room k script (Ok worked) = HasDone m room k script worked.caller (map answer_of worked.replies.items)
-IsEnd m room k script (Err fault) = IsWorkFault k fault
+IsEnd m room k script (Err fault) = Unit {0}
+
+-- where worker k ended in its n calls, by what its gate may answer
+abbrev pub IsGated : (ℕ → ℕ → Bool → Type 0) → ℕ → ℕ → Result Worked RunFault → Type 0
+IsGated may_answer k n (Ok worked) = MayPass may_answer k n
+IsGated may_answer k n (Err fault) = IsWorkFault may_answer k n fault
+
+-- how worker k ends
+pub record Ends (may_answer : ℕ → ℕ → Bool → Type 0) (m : Machine) (room k : ℕ) (script : List Call) (end : Result Worked RunFault) : Type 0 where
+  pub done : IsEnd m room k script end
+  pub gated : IsGated may_answer k (length script) end
 
 -- how the worker that is to do this ends
-abbrev pub IsEndOf : Machine → ℕ → Job → Result Worked RunFault → Type 0
-IsEndOf m room job end = IsEnd m room job.caller.number job.script.items end
+abbrev pub IsEndOf : (ℕ → ℕ → Bool → Type 0) → Machine → ℕ → Job → Result Worked RunFault → Type 0
+IsEndOf may_answer m room job end = Ends may_answer m room job.caller.number job.script.items end
 
 -- the thread of a worker, if it could be made, does what the worker is to do
-abbrev pub IsStarted : Machine → ℕ → Job → Started → Type 0
-IsStarted m room job (Runs handle) =
-    (handle.promise.machine.value ≡ m) × (handle.promise.room ≡ room) × (handle.promise.number ≡ job.caller.number)
-    × (handle.promise.script.value.items ≡ job.script.items)
-IsStarted m room job Refused = Unit {0}
+abbrev pub IsStarted : {G : Type 0} → G → Machine → ℕ → Job → Started G → Type 0
+IsStarted gate m room job (Runs handle) =
+    (handle.promise.gate.value ≡ gate) × (handle.promise.machine.value ≡ m) × (handle.promise.room ≡ room)
+    × (handle.promise.number ≡ job.caller.number) × (handle.promise.script.value.items ≡ job.script.items)
+IsStarted gate m room job Refused = Unit {0}
 
 -- how a thread ended; one that could not be made is a want of memory
-abbrev pub IsJoined : Started → Result Worked RunFault → Type 0
-IsJoined (Runs handle) end = IsEnd handle.promise.machine.value handle.promise.room handle.promise.number handle.promise.script.value.items end
-IsJoined Refused end = end ≡ Err stops.OutOfMemory
+abbrev pub IsJoined : {G : Type 0} → (G → ℕ → ℕ → Bool → Type 0) → Started G → Result Worked RunFault → Type 0
+IsJoined may_answer (Runs handle) end =
+    Ends (may_answer handle.promise.gate.value) handle.promise.machine.value handle.promise.room handle.promise.number handle.promise.script.value.items end
+IsJoined may_answer Refused end = end ≡ Err stops.OutOfMemory
 
 -- The lists are of one length, and the fact holds of the members at each place. Places are counted from k on.
 abbrev pub EachAt : {A B : Type 0} → (ℕ → A → B → Type 0) → ℕ → List A → List B → Type 0
@@ -78,11 +99,22 @@ EachAt fact k (x ∷ xs) (y ∷ ys) = fact k x y × EachAt fact (k + 1) xs ys
 abbrev pub AreEnds : Machine → ℕ → List (List Call) → List (Result Worked RunFault) → Type 0
 AreEnds m room scripts ends = EachAt (IsEnd m room) 0 scripts ends
 
+abbrev pub AreGated : (ℕ → ℕ → Bool → Type 0) → List (List Call) → List (Result Worked RunFault) → Type 0
+AreGated may_answer scripts ends = EachAt (λ k script end. IsGated may_answer k (length script) end) 0 scripts ends
+
 -- this is the fault of the lowest worker that has one
 pub record IsFirstFault (fault : RunFault) (ends : List (Result Worked RunFault)) : Type 0 where
   pub before : List Worked
   pub behind : List (Result Worked RunFault)
   pub ends_are : ends ≡ map Ok before ++ Err fault ∷ behind
+
+-- each of the workers has done its script
+abbrev pub AllWorked : List (Result Worked RunFault) → Type 0
+AllWorked ends = (workers : List Worked) × (ends ≡ map Ok workers)
+
+-- why the ends of workers on a machine of n callers are not settled
+abbrev pub IsSettleFault : ℕ → List (Result Worked RunFault) → RunFault → Type 0
+IsSettleFault n ends fault = ((fault ≡ stops.OutOfMemory) ⊎ IsFirstFault fault ends) ⊎ ((fault ≡ stops.Unfinished) × (1 < n))
 
 -- the replies are those of the worker, who has seen a beginning of this history
 abbrev pub HasMet : List Entry → Worked → Vec Reply Global → Type 0

@@ -1,6 +1,6 @@
 //! A script as the calls of its callers.
 
-ghost use Rattle.std.specs.Prelude.{[], ◌≡◌, ◌<◌, ◌≤◌, Err, OnOk, IfOk, IfSome, length, vec_len};
+ghost use Rattle.std.specs.Prelude.{[], ◌≡◌, ◌<◌, ◌≤◌, ℕ, Err, OnOk, IfOk, IfSome, length, vec_len};
 ghost use Rattle.call_history.specs.Callers.{caller_limit};
 ghost use Rattle.script_main.specs.Readings.{lists_of, IsRead, IsReadInto};
 
@@ -27,6 +27,7 @@ fn read_input<R: Source>(
     ensures few { OnOk result (vec_len reading.new.calls ≤ caller_limit) }
     ensures failed { result ≡ Err RunFault.Read → R.failures reader.old < R.failures reader.new }
     ensures unwritten { result ≡ Err RunFault.Write → ⊥ }
+    ensures unstopped { (worker : ℕ) → result ≡ Err (RunFault.Stopped worker) → ⊥ }
 {
     loop {
         match reader.read(block) {
@@ -46,6 +47,7 @@ pub fn read_script<R: Source>(alloc: Global, reader: &mut R) -> Result<Vec<Vec<C
     ensures few { IfOk result (λ calls. vec_len calls ≤ caller_limit) }
     ensures failed { result ≡ Err RunFault.Read → R.failures reader.old < R.failures reader.new }
     ensures unwritten { result ≡ Err RunFault.Write → ⊥ }
+    ensures unstopped { (worker : ℕ) → result ≡ Err (RunFault.Stopped worker) → ⊥ }
 {
     let Ok(mut block) = vec![in alloc; 0u8; BLOCK] else {
         return Err(RunFault::OutOfMemory);

@@ -1,10 +1,10 @@
 //! The end of a run of worker threads: their callers meet, and one of them closes the machine.
 
-ghost use Rattle.std.specs.Prelude.{◌≡◌, ◌≢◌, ◌⊎◌, ℕ, List, ◌<◌, [], Ok, length, map, All, IsTrue, IsErrOf, IfOk, IfErr, vec_len};
+ghost use Rattle.std.specs.Prelude.{◌≡◌, ◌≢◌, ◌⊎◌, ℕ, List, ◌<◌, [], Ok, length, map, All, IsTrue, IsErrOf, OnOk, IfOk, IfErr, vec_len};
 ghost use Rattle.cvl_text.specs.declared.call.Call.{Call};
 ghost use Rattle.combiner.specs.Standing.{callers_of, newcomers, IsIdle};
-ghost use Rattle.script_main.specs.Settles.{IsSettled, IsThreadsFault};
-ghost use Rattle.script_main.specs.Workers.{reply_count, IsFirstFault, HaveMet, IsClosed, AreEnds};
+ghost use Rattle.script_main.specs.Settles.{IsSettled};
+ghost use Rattle.script_main.specs.Workers.{reply_count, IsFirstFault, HaveMet, IsClosed, AreEnds, AllWorked, IsSettleFault};
 
 use crate::fault::RunFault;
 use crate::settled::Settled;
@@ -59,7 +59,7 @@ pub(crate) fn settle_nothing(
     requires alone { callers_of machine ≡ 1 }
     requires callers { callers.items ≡ newcomers machine room 1 }
     ensures settled { IfOk result (λ run. IsSettled room [] run.replies run.book) }
-    ensures fault { IfErr result (IsThreadsFault 0) }
+    ensures never { IfErr result (λ fault. ⊥) }
 {
     let Some(closer) = callers.pop() else {
         unreachable!()
@@ -126,7 +126,8 @@ pub(crate) fn settle(
     requires each { vec_len ends ≡ callers_of machine }
     ensures settled { IfOk result (λ run. (scripts : List (List Call))
         → AreEnds machine room scripts ends.items → IsSettled room scripts run.replies run.book) }
-    ensures fault { IfErr result (IsThreadsFault (vec_len ends)) }
+    ensures worked { OnOk result (AllWorked ends.items) }
+    ensures fault { IfErr result (IsSettleFault (callers_of machine) ends.items) }
 {
     let workers = all_worked(alloc, ends)?;
     let Ok((closer, replies)) = meet_all(alloc, &machine, workers) else {

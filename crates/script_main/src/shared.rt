@@ -1,6 +1,6 @@
 //! A script whose callers run in threads of their own.
 
-ghost use Rattle.std.specs.Prelude.{◌≡◌, ◌<◌, ◌≤◌, Err, OnOk, IfOk, IfSome, vec_len};
+ghost use Rattle.std.specs.Prelude.{◌≡◌, ◌<◌, ◌≤◌, ℕ, Err, OnOk, IfOk, IfSome, vec_len};
 ghost use Rattle.vector_memory.specs.States.{IsLawfulRoom};
 ghost use Rattle.call_history.specs.Callers.{caller_limit};
 ghost use Rattle.script_main.specs.Runs.{IsCounted};
@@ -33,6 +33,7 @@ fn read_whole<R: Source, W: Sink>(
     ensures counted { OnOk result (W.failures writer.new ≡ W.failures writer.old) }
     ensures cut { result ≡ Err RunFault.Read → R.failures reader.old < R.failures reader.new }
     ensures failed { result ≡ Err RunFault.Write → W.failures writer.old < W.failures writer.new }
+    ensures unstopped { (worker : ℕ) → result ≡ Err (RunFault.Stopped worker) → ⊥ }
 {
     match read_script(alloc, reader) {
         Ok(calls) => Ok(calls),

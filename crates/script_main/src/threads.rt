@@ -1,13 +1,14 @@
 //! Worker threads: one for each script, all on one machine.
 
-ghost use Rattle.std.specs.Prelude.{◌≡◌, ◌≤◌, [], length, map, All, IfOk, IfErr, vec_len, vec_capacity};
+ghost use Rattle.std.specs.Prelude.{◌≡◌, ◌≤◌, ℕ, [], length, map, All, OnOk, IfOk, IfErr, vec_len, vec_capacity};
 ghost use Rattle.std.specs.List.{AllZip};
 ghost use Rattle.vector_memory.specs.States.{IsLawfulRoom};
 ghost use Rattle.call_history.specs.Callers.{caller_limit};
 ghost use Rattle.combiner.specs.Standing.{IsNewAt};
 ghost use Rattle.script_main.specs.Readings.{lists_of};
+ghost use Rattle.script_main.specs.Gates.{MayFinish};
 ghost use Rattle.script_main.specs.Settles.{IsSettled, IsThreadsFault};
-ghost use Rattle.script_main.specs.Workers.{IsStarted, IsJoined, IsEnd, IsEndOf};
+ghost use Rattle.script_main.specs.Workers.{IsStarted, IsJoined, Ends, IsEndOf};
 
 use crate::fault::RunFault;
 use crate::gate::Gate;
@@ -30,23 +31,24 @@ struct Job {
     script: Vec<Call>,
 }
 
-/// What the thread of a worker promises: that it ends as this worker with this script may.
+/// What the thread of a worker promises: that it ends as this worker with this script and this gate may.
 #[derive(Drop)]
-struct EndOf {
+struct EndOf<G> {
+    gate: Snapshot<G>,
     machine: Snapshot<Shared>,
     room: u64,
     number: usize,
     script: Snapshot<Vec<Call>>,
 }
 
-impl Promise<Result<Worked, RunFault>> for EndOf {
-    ghost kept_by = { λ p end. IsEnd p.machine.value p.room p.number p.script.value.items end };
+impl<G: Gate> Promise<Result<Worked, RunFault>> for EndOf<G> {
+    ghost kept_by = { λ p end. Ends (G.may_answer p.gate.value) p.machine.value p.room p.number p.script.value.items end };
 }
 
 /// The thread of a worker, if it could be made.
 #[derive(Drop)]
-enum Started {
-    Runs(PromisedHandle<Result<Worked, RunFault>, EndOf>),
+enum Started<G: Gate> {
+    Runs(PromisedHandle<Result<Worked, RunFault>, EndOf<G>>),
     Refused,
 }
 
@@ -80,12 +82,13 @@ fn start<'s, E: 's, R: Threads + Wait + Sync, G: Gate + Sync>(
     room: u64,
     job: Job,
     gate: &'s G,
-) -> Started
+) -> Started<G>
     requires { IsNewAt shared.now room job.caller }
-    ensures { IsStarted shared.now room job result }
+    ensures { IsStarted gate.now shared.now room job result }
 {
     let Job { caller, script } = job;
     let promise = EndOf {
+        gate: Snapshot::of(gate),
         machine: Snapshot::of(shared),
         room,
         number: caller.number(),
@@ -95,7 +98,7 @@ fn start<'s, E: 's, R: Threads + Wait + Sync, G: Gate + Sync>(
         promise,
         move || -> Result<Worked, RunFault>
             requires { IsNewAt shared.now caller.room caller }
-            ensures { IsEnd shared.entry.now caller.room caller.number script.items result }
+            ensures { Ends (G.may_answer gate.entry.now) shared.entry.now caller.room caller.number script.items result }
         { work(rt, alloc, shared, caller, script, gate) },
     );
     match started {
@@ -113,9 +116,9 @@ fn start_all<'s, E: 's, R: Threads + Wait + Sync, G: Gate + Sync>(
     room: u64,
     jobs: Vec<Job>,
     gate: &'s G,
-) -> Result<Vec<Started>, OutOfMemory>
+) -> Result<Vec<Started<G>>, OutOfMemory>
     requires { All (λ job. IsNewAt shared.now room job.caller) jobs.items }
-    ensures { IfOk result (λ started. AllZip (IsStarted shared.now room) jobs.items started.items) }
+    ensures { IfOk result (λ started. AllZip (IsStarted gate.now shared.now room) jobs.items started.items) }
 {
     let mut started = Vec::with_capacity(alloc, jobs.len())?;
     for job in jobs {
@@ -126,8 +129,8 @@ fn start_all<'s, E: 's, R: Threads + Wait + Sync, G: Gate + Sync>(
 }
 
 /// Joins a thread. One that could not be made is a want of memory.
-fn join<R: Threads>(rt: &R, worker: Started) -> Result<Worked, RunFault>
-    ensures { IsJoined worker result }
+fn join<R: Threads, G: Gate>(rt: &R, worker: Started<G>) -> Result<Worked, RunFault>
+    ensures { IsJoined G.may_answer worker result }
 {
     match worker {
         Started::Runs(handle) => handle.join(rt),
@@ -136,10 +139,14 @@ fn join<R: Threads>(rt: &R, worker: Started) -> Result<Worked, RunFault>
 }
 
 /// Joins the thread of each worker.
-fn join_all<R: Threads>(rt: &R, started: Vec<Started>, ends: &mut Vec<Result<Worked, RunFault>>)
+fn join_all<R: Threads, G: Gate>(
+    rt: &R,
+    started: Vec<Started<G>>,
+    ends: &mut Vec<Result<Worked, RunFault>>,
+)
     requires none { ends.old.items ≡ [] }
     requires spaces { vec_len started ≤ vec_capacity ends.old }
-    ensures { AllZip IsJoined started.items ends.new.items }
+    ensures { AllZip (IsJoined G.may_answer) started.items ends.new.items }
 {
     for worker in started {
         ends.push_reserved(join(rt, worker));
@@ -157,7 +164,7 @@ fn work_in<'s, E: 's, R: Threads + Wait + Sync, G: Gate + Sync>(
     gate: &'s G,
 ) -> Result<Vec<Result<Worked, RunFault>>, OutOfMemory>
     requires { All (λ job. IsNewAt shared.now room job.caller) jobs.items }
-    ensures { IfOk result (λ ends. AllZip (IsEndOf shared.now room) jobs.items ends.items) }
+    ensures { IfOk result (λ ends. AllZip (IsEndOf (G.may_answer gate.now) shared.now room) jobs.items ends.items) }
 {
     let mut ends = Vec::with_capacity(alloc, jobs.len())?;
     let started = start_all(scope, rt, alloc, shared, room, jobs, gate)?;
@@ -175,14 +182,14 @@ fn work_all<R: Threads + Wait + Sync, G: Gate + Sync>(
     gate: &G,
 ) -> Result<Vec<Result<Worked, RunFault>>, OutOfMemory>
     requires { All (λ job. IsNewAt shared.now room job.caller) jobs.items }
-    ensures { IfOk result (λ ends. AllZip (IsEndOf shared.now room) jobs.items ends.items) }
+    ensures { IfOk result (λ ends. AllZip (IsEndOf (G.may_answer gate.now) shared.now room) jobs.items ends.items) }
 {
     thread::scope(
         thread::scope_env(),
         rt,
         |scope| -> Result<Vec<Result<Worked, RunFault>>, OutOfMemory>
             requires { All (λ job. IsNewAt shared.now room job.caller) jobs.items }
-            ensures { IfOk result (λ ends. AllZip (IsEndOf shared.entry.now room) jobs.items ends.items) }
+            ensures { IfOk result (λ ends. AllZip (IsEndOf (G.may_answer gate.entry.now) shared.entry.now room) jobs.items ends.items) }
         { work_in(scope, rt, alloc, shared, room, jobs, gate) },
     )
 }
@@ -192,8 +199,8 @@ fn work_all<R: Threads + Wait + Sync, G: Gate + Sync>(
 ///
 /// A worker leaves each of its calls, asks the gate, and then serves and asks until the call is answered. Behind the last it
 /// asks the gate once more. All workers have ended before this returns. A worker that the gate stops ends with `Stopped`,
-/// and one that memory is refused, or a thread, with `OutOfMemory`; of several the fault of the lowest is answered. The run
-/// is `Unfinished` where the machine cannot be closed, or has entries that no worker was told of; with one script that
+/// and one that memory is refused, or a thread, with `OutOfMemory`; of several the fault of the lowest is answered. So where
+/// `Stopped` is answered the gate let each lower worker take all its turns. The run is `Unfinished` where the machine cannot be closed, or has entries that no worker was told of; with one script that
 /// never is.
 pub fn run_threads<R: Threads + Wait + Sync, G: Gate + Sync>(
     rt: &R,
@@ -205,7 +212,8 @@ pub fn run_threads<R: Threads + Wait + Sync, G: Gate + Sync>(
     requires few { vec_len scripts ≤ caller_limit }
     requires room { IsLawfulRoom room }
     ensures settled { IfOk result (λ run. IsSettled room (lists_of scripts) run.replies run.book) }
-    ensures fault { IfErr result (IsThreadsFault (vec_len scripts)) }
+    ensures passed { OnOk result ((k : ℕ) → MayFinish (G.may_answer gate.now) (lists_of scripts) k) }
+    ensures fault { IfErr result (IsThreadsFault (G.may_answer gate.now) (lists_of scripts)) }
 {
     let count = scripts.len();
     let (machine, callers) = match Shared::new(alloc, count.max(1) as u64, room) {

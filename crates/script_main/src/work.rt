@@ -1,8 +1,8 @@
 //! One worker: a caller that does its script.
 
-ghost use Rattle.std.specs.Prelude.{◌≡◌, IfOk, IfErr};
+ghost use Rattle.std.specs.Prelude.{true, ◌≡◌, OnOk, IfOk, IfErr, length};
 ghost use Rattle.combiner.specs.Standing.{IsIdle, IsNewAt};
-ghost use Rattle.script_main.specs.Workers.{GoesOn, IsWorkFault, IsEnd};
+ghost use Rattle.script_main.specs.Workers.{GoesOn, IsTurnFault, IsEnd, IsGated};
 
 use crate::fault::RunFault;
 use crate::gate::Gate;
@@ -32,7 +32,8 @@ fn take_turn<G: Gate>(
     requires machine { caller.old.machine ≡ shared.now }
     requires idle { IsIdle caller.old }
     ensures turn { IfOk result (GoesOn caller.old call caller.new) }
-    ensures fault { IfErr result (IsWorkFault caller.old.number) }
+    ensures passes { OnOk result (G.may_answer gate.now caller.old.number turn true) }
+    ensures fault { IfErr result (IsTurnFault (G.may_answer gate.now) caller.old.number turn) }
 {
     let worker = caller.number() as u64;
     let Ok(()) = shared.post(caller, call) else {
@@ -57,7 +58,8 @@ pub(crate) fn work<G: Gate>(
     gate: &G,
 ) -> Result<Worked, RunFault>
     requires { IsNewAt shared.now caller.room caller }
-    ensures { IsEnd shared.now caller.room caller.number script.items result }
+    ensures done { IsEnd shared.now caller.room caller.number script.items result }
+    ensures gated { IsGated (G.may_answer gate.now) caller.number (length script.items) result }
 {
     let worker = caller.number() as u64;
     let Ok(mut replies) = Vec::with_capacity(alloc, script.len()) else {

@@ -6,9 +6,9 @@ use Rattle.cvl_text.specs.declared.call.Call.{Call}
 use Rattle.script_main.specs.declared.fault.RunFault.{RunFault}
 use Rattle.script_main.specs.declared.fault.RunFault.TheVariants as stops
 use Rattle.script_main.specs.Scripts.{IsOneLine, lines_of}
-use Rattle.script_main.specs.Readings.{lists_of, IsReadInto}
+use Rattle.script_main.specs.Readings.{lists_of, IsReadInto, IsHalt}
 use Rattle.script_main.proofs.CountLemmas.{lists_few}
-use Rattle.script_main.proofs.HaltLemmas.{halt-no_read, halt-no_write}
+use Rattle.script_main.proofs.StopLemmas.{handed-out, handed-over}
 use Rattle.script_main.proofs.ReadProgress.{ReadSoFar, ReadSoFar-start, ReadSoFar-read, ReadSoFar-stop, ReadSoFar-cut, ReadSoFar-last}
 use Rattle.script_main.proofs.script.read_input.Goals as goal
 
@@ -86,22 +86,31 @@ returns-in_err-read_block-in-Ok-clause-read g c =
     (ReadSoFar-stop fault input left rest (lists_of reading.calls) more reading.number reading.partial.items got kept.progress consumed c.in_err-read_block-in-Ok.ensures.halt)
 
 pub returns-in_err-read_block-in-Ok-clause-failed : goal.returns-in_err-read_block-in-Ok-clause-failed
-returns-in_err-read_block-in-Ok-clause-failed g c = λ read.
+returns-in_err-read_block-in-Ok-clause-failed g c =
     let reading = c.loop-reading.reading in
-    let fault = c.in_err-read_block-in-Ok.field-0.0 in
-    let given = err_from_is_err_and c.from_residual.result c.from_residual.ensures.1 in
     let text = reading.partial.items ++ take c.in-Ok.count c.read.new.buffer in
-    let is : ◌≡◌ {A = Result (Unit {0}) RunFault} (Err fault) (Err stops.Read) = sym (given.1 ∙ ap (λ (f : RunFault). Err f) given.2) ∙ read in
-    absurd (halt-no_read fault reading.number (text ++ []) (c.in_err-read_block-in-Ok.ensures.halt []) (cc is))
+    let Halts = λ (f : RunFault). IsHalt f reading.number (text ++ []) in
+    let given = err_from_is_err_and c.from_residual.result c.from_residual.ensures.1 in
+    let halts = handed-out c.from_residual.result Halts c.in_err-read_block-in-Ok.field-0.0 given.0 given.1 given.2 (c.in_err-read_block-in-Ok.ensures.halt []) in
+    λ is. absurd (handed-over c.from_residual.result Halts stops.Read halts is)
 
 pub returns-in_err-read_block-in-Ok-clause-unwritten : goal.returns-in_err-read_block-in-Ok-clause-unwritten
-returns-in_err-read_block-in-Ok-clause-unwritten g c = λ write.
+returns-in_err-read_block-in-Ok-clause-unwritten g c =
     let reading = c.loop-reading.reading in
-    let fault = c.in_err-read_block-in-Ok.field-0.0 in
-    let given = err_from_is_err_and c.from_residual.result c.from_residual.ensures.1 in
     let text = reading.partial.items ++ take c.in-Ok.count c.read.new.buffer in
-    let is : ◌≡◌ {A = Result (Unit {0}) RunFault} (Err fault) (Err stops.Write) = sym (given.1 ∙ ap (λ (f : RunFault). Err f) given.2) ∙ write in
-    halt-no_write fault reading.number (text ++ []) (c.in_err-read_block-in-Ok.ensures.halt []) (cc is)
+    let Halts = λ (f : RunFault). IsHalt f reading.number (text ++ []) in
+    let given = err_from_is_err_and c.from_residual.result c.from_residual.ensures.1 in
+    let halts = handed-out c.from_residual.result Halts c.in_err-read_block-in-Ok.field-0.0 given.0 given.1 given.2 (c.in_err-read_block-in-Ok.ensures.halt []) in
+    handed-over c.from_residual.result Halts stops.Write halts
+
+pub returns-in_err-read_block-in-Ok-clause-unstopped : goal.returns-in_err-read_block-in-Ok-clause-unstopped
+returns-in_err-read_block-in-Ok-clause-unstopped g c =
+    let reading = c.loop-reading.reading in
+    let text = reading.partial.items ++ take c.in-Ok.count c.read.new.buffer in
+    let Halts = λ (f : RunFault). IsHalt f reading.number (text ++ []) in
+    let given = err_from_is_err_and c.from_residual.result c.from_residual.ensures.1 in
+    let halts = handed-out c.from_residual.result Halts c.in_err-read_block-in-Ok.field-0.0 given.0 given.1 given.2 (c.in_err-read_block-in-Ok.ensures.halt []) in
+    λ worker. handed-over c.from_residual.result Halts (stops.Stopped worker) halts
 
 pub returns-in-Err-clause-read : goal.returns-in-Err-clause-read
 returns-in-Err-clause-read g c =

@@ -34,3 +34,11 @@ returns-in_err-read_input-clause-unwritten g c = λ write.
     let is : ◌≡◌ {A = Result (Vec (Vec Call Global) Global) RunFault} (Err fault) (Err stops.Write) = sym (given.1 ∙ ap (λ (f : RunFault). Err f) given.2) ∙ write in
     let same : fault ≡ stops.Write = cc is in
     c.in_err-read_input.ensures.unwritten (ap (λ (f : RunFault). Err f) same)
+
+pub returns-in_err-read_input-clause-unstopped : goal.returns-in_err-read_input-clause-unstopped
+returns-in_err-read_input-clause-unstopped g c = λ worker stopped.
+    let given = err_from_is_err_and c.from_residual.result c.from_residual.ensures.1 in
+    let fault = c.in_err-read_input.field-0.0 in
+    let is : ◌≡◌ {A = Result (Vec (Vec Call Global) Global) RunFault} (Err fault) (Err (stops.Stopped worker)) = sym (given.1 ∙ ap (λ (f : RunFault). Err f) given.2) ∙ stopped in
+    let same : fault ≡ stops.Stopped worker = cc is in
+    c.in_err-read_input.ensures.unstopped worker (ap (λ (f : RunFault). Err f) same)

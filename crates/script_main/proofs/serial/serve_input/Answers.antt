@@ -55,7 +55,7 @@ returns-in-Ok-eq0-clause-counted g c =
     let writes' = g.W.Sink.failures c.serve_last.new.writer in
     subst (λ (n : ℕ). IsCounted c.serve_last.result reads reads' n writes') kept.writes
     (counted-served c.serve_last.result reads reads' (g.W.Sink.failures c.loop-run.writer) writes'
-    (λ f. IsStop f (memory_of run.book) run.number run.partial.items [] (g.W.Sink.written c.loop-run.writer) (g.W.Sink.written c.serve_last.new.writer)) (λ never. never) c.serve_last.ensures.stop c.serve_last.ensures.failed)
+    (λ f. IsStop f (memory_of run.book) run.number run.partial.items [] (g.W.Sink.written c.loop-run.writer) (g.W.Sink.written c.serve_last.new.writer)) (λ never. never) (λ worker never. never) c.serve_last.ensures.stop c.serve_last.ensures.failed)
 
 pub loop-run-preserved : goal.loop-run-preserved
 loop-run-preserved g c =
@@ -117,7 +117,7 @@ returns-in_err-serve_block-in-Ok-clause-counted g c =
     let is_failed : c.from_residual.result ≡ Err failed = given.1 ∙ ap (λ (f : RunFault). Err f) given.2 in
     let stop = handed-out c.from_residual.result Stops failed given.0 given.1 given.2 (c.in_err-serve_block-in-Ok.ensures.stop []) in
     subst (λ (n : ℕ). IsCounted c.from_residual.result reads reads' n writes') kept.writes
-    (counted-served c.from_residual.result reads reads' writes writes' Stops (λ never. never) stop (λ is. c.in_err-serve_block-in-Ok.ensures.failed (sym is_failed ∙ is)))
+    (counted-served c.from_residual.result reads reads' writes writes' Stops (λ never. never) (λ worker never. never) stop (λ is. c.in_err-serve_block-in-Ok.ensures.failed (sym is_failed ∙ is)))
 
 pub returns-in-Err-clause-runs : goal.returns-in-Err-clause-runs
 returns-in-Err-clause-runs g c =

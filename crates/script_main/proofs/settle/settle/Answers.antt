@@ -1,18 +1,17 @@
-use Rattle.std.proofs.Common.{rules, ◌≡◌, length, ◌∙◌, subst}
+use Rattle.std.proofs.Common.{rules, inl, ◌≡◌, length, ◌∙◌}
 use Rattle.std.specs.Prelude.{vec_len}
 use Rattle.std.proofs.lemmas.Result.{err_from_is_err_and}
-use Rattle.script_main.specs.Settles.{IsThreadsFault}
+use Rattle.combiner.specs.Standing.{callers_of}
+use Rattle.script_main.specs.Workers.{IsSettleFault}
 use Rattle.script_main.proofs.StopLemmas.{handed-out}
-use Rattle.script_main.proofs.EndLemmas.{end_faults, worked_machines, met_closer, met_alone, closes}
+use Rattle.script_main.proofs.EndLemmas.{worked_machines, met_closer, met_alone, closes}
 use Rattle.script_main.proofs.settle.settle.Goals as goal
 
 pub returns-in_err-workers-clause-fault : goal.returns-in_err-workers-clause-fault
 returns-in_err-workers-clause-fault c =
-    let size : length c.args.ends.items ≡ vec_len c.args.ends = search rules in
     let given = err_from_is_err_and c.from_residual.result c.from_residual.ensures.1 in
     let fault = c.in_err-workers.field-0.0 in
-    handed-out c.from_residual.result (IsThreadsFault (vec_len c.args.ends)) fault given.0 given.1 given.2
-    (subst (λ n. IsThreadsFault n fault) size (end_faults c.args.machine c.args.room c.requires.ends.0 c.args.ends.items fault c.requires.ends.1 c.in_err-workers.ensures.fault))
+    handed-out c.from_residual.result (IsSettleFault (callers_of c.args.machine) c.args.ends.items) fault given.0 given.1 given.2 (inl c.in_err-workers.ensures.fault)
 
 pub meet_all-requires-clause-machine : goal.meet_all-requires-clause-machine
 meet_all-requires-clause-machine c = worked_machines c.args.machine c.args.room c.requires.ends.0 c.args.ends.items c.in_ok-workers.workers.items c.in_ok-workers.ensures.workers c.requires.ends.1

@@ -10,5 +10,5 @@ loop-worker-preserved g c =
     let sizes = ap length next in
     let inv = c.loop-worker.invariant in
     let spaces = inv.0 in
-    let more = zip_more IsJoined _ _ _ c.in-Some.worker c.loop-worker.ends.items c.join.result next (inv.1, inv.2, inv.3) c.join.ensures in
+    let more = zip_more (IsJoined g.G.Gate.may_answer) _ _ _ c.in-Some.worker c.loop-worker.ends.items c.join.result next (inv.1, inv.2, inv.3) c.join.ensures in
     (omega (arith, sizes, spaces, c.push_reserved.ensures.len, c.push_reserved.ensures.capacity), more.0, more.1, rw c.push_reserved.ensures.items more.2)

@@ -9,5 +9,5 @@ use Rattle.script_main.proofs.threads.join_all.Given as goal
 abbrev pub invariant-loop-worker : goal.invariant-loop-worker
 invariant-loop-worker g l =
     (vec_len l.ends + length (into_iter_items l.worker-iterator) ≤ vec_capacity l.ends)
-    × (done : List Started) × (l.fn.started.items ≡ done ++ into_iter_items l.worker-iterator)
-    × AllZip IsJoined done l.ends.items
+    × (done : List (Started g.row.G.Denot)) × (l.fn.started.items ≡ done ++ into_iter_items l.worker-iterator)
+    × AllZip (IsJoined g.G.Gate.may_answer) done l.ends.items

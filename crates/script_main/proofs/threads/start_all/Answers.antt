@@ -12,7 +12,7 @@ loop-job-preserved g c =
     let sizes = ap length next in
     let inv = c.loop-job.invariant in
     let spaces = inv.0 in
-    let more = zip_more (IsStarted c.args.shared.now c.args.room) _ _ _ c.in-Some.job c.loop-job.started.items c.start-worker.result next (inv.2, inv.3, inv.4) c.start-worker.ensures in (
+    let more = zip_more (IsStarted c.args.gate.now c.args.shared.now c.args.room) _ _ _ c.in-Some.job c.loop-job.started.items c.start-worker.result next (inv.2, inv.3, inv.4) c.start-worker.ensures in (
       omega (arith, sizes, spaces, c.push_reserved.ensures.len, c.push_reserved.ensures.capacity),
       all_rest (λ (job : Job). IsNewAt c.args.shared.now c.args.room job.caller) _ _ c.in-Some.job next inv.1,
       more.0,

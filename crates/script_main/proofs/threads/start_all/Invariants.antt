@@ -12,4 +12,4 @@ invariant-loop-job g l =
     (vec_len l.started + length (into_iter_items l.job-iterator) ≤ vec_capacity l.started)
     × All (λ (job : Job). IsNewAt l.shared l.room job.caller) (into_iter_items l.job-iterator)
     × (done : List Job) × (l.fn.jobs.items ≡ done ++ into_iter_items l.job-iterator)
-    × AllZip (IsStarted l.shared l.room) done l.started.items
+    × AllZip (IsStarted l.gate l.shared l.room) done l.started.items
