@@ -35,11 +35,12 @@ fn scripts_of(alloc: Global, bytes: &[u8]) -> Result<Vec<Vec<Call>>, RunFault> {
     read_script(alloc, &mut source)
 }
 
-/// How many replies each worker had, and the length of the history.
+/// How many replies each worker had, the length of the history, and the texts of all replies, each with a line feed.
 #[derive(Drop)]
 struct Came {
     replies: Vec<usize>,
     history: usize,
+    said: Vec<u8>,
 }
 
 /// Runs a script through a gate.
@@ -56,11 +57,20 @@ fn run_through<G: Gate + Sync>(
     };
     assert!(rt; settled.book.audit(rt, rt.alloc())?);
     let mut replies = Vec::new(rt.alloc());
+    let mut said = Vec::new(rt.alloc());
     for own in &settled.replies {
         replies.push(own.len())?;
+        for reply in own {
+            reply.write(&mut said)?;
+            said.push(b'\n')?;
+        }
     }
     let history = settled.book.len();
-    Ok(Ok(Came { replies, history }))
+    Ok(Ok(Came {
+        replies,
+        history,
+        said,
+    }))
 }
 
 /// Three workers: the first has no call, the others one each.
@@ -126,6 +136,41 @@ fn both_posted(rt: HostRuntime) -> Result<(), Fail> {
         second: AtomicU64::new(0),
     };
     assert!(rt; has_both(run_through(&rt, ONE_EACH, &gate)?));
+    Ok(())
+}
+
+/// Holds worker 0 before its call until worker 1 was answered, and worker 1 before its call until worker 0 is held.
+#[derive(Drop)]
+struct LeavesFirst {
+    held: AtomicU64,
+    answered: AtomicU64,
+}
+
+impl Gate for LeavesFirst {
+    fn before(&self, worker: u64, turn: u64) -> bool {
+        if worker == 0 && turn == 0 {
+            self.held.fetch_add(1, Ordering::SeqCst);
+            return waits_for(&self.answered);
+        }
+        if worker == 1 && turn == 0 {
+            return waits_for(&self.held);
+        }
+        if worker == 1 {
+            self.answered.fetch_add(1, Ordering::SeqCst);
+        }
+        true
+    }
+}
+
+/// The call of worker 0 lies there while its gate holds it, so the pass of worker 1 serves it, before its own.
+#[test]
+fn asked_with_the_call_left(rt: HostRuntime) -> Result<(), Fail> {
+    let gate = LeavesFirst {
+        held: AtomicU64::new(0),
+        answered: AtomicU64::new(0),
+    };
+    let came = run_through(&rt, b"0: a = z 1\n1: get a\n", &gate)?;
+    assert!(rt; matches!(&came, Ok(came) if came.said.as_slice() == b"ok\nz 1\n".as_slice()));
     Ok(())
 }
 
