@@ -9,7 +9,7 @@ use Rattle.cvl_text.specs.Tasks.{Task}
 use Rattle.cvl_text.specs.Words.{words_of}
 use Rattle.cvl_text.specs.Lines.{task_in}
 use Rattle.call_history.specs.Callers.{caller_limit}
-use Rattle.script_main.specs.Scripts.{Skipped, Bad, is_digit, is_comment, caller_of, asked, line_in, line_of, line_limit}
+use Rattle.script_main.specs.Scripts.{Skipped, Bad, is_digit, is_comment, caller_named, asked, line_in, line_of, line_limit}
 use Rattle.script_main.specs.Readings.{lists_of, callers_in, caller_count, AddsCalls}
 
 both-left : (a b : Bool) → (a && b) ≡ true → a ≡ true
@@ -26,7 +26,7 @@ below a b h = elim (leb_tells (suc a) b) [ inl le ↦ omega (arith, le.1) | inr 
 at_most : (a b : ℕ) → nat_le a b ≡ true → a ≤ b
 at_most a b h = elim (leb_tells a b) [ inl le ↦ le.1 | inr gt ↦ absurd (cc (h, gt.0)) ]
 
-caller_few : (word : List ℕ) → IfSome (caller_of word) (λ caller. caller < caller_limit)
+caller_few : (word : List ℕ) → IfSome (caller_named word) (λ caller. caller < caller_limit)
 caller_few [] = tt
 caller_few (d ∷ []) = tt
 caller_few (d ∷ e ∷ []) = go (is_digit d && e == 58) refl
@@ -53,9 +53,9 @@ line_few : (words : List (List ℕ)) → callers_in (line_in words) ≤ caller_l
 line_few [] = omega arith
 line_few (w ∷ ws) = go (is_comment w)
   where
-    go : (b : Bool) → callers_in (cond b Skipped (asked (caller_of w) (task_in ws))) ≤ caller_limit
+    go : (b : Bool) → callers_in (cond b Skipped (asked (caller_named w) (task_in ws))) ≤ caller_limit
     go true = omega arith
-    go false = asked_few (caller_of w) (task_in ws) (caller_few w)
+    go false = asked_few (caller_named w) (task_in ws) (caller_few w)
 
 callers_few : (line : List ℕ) → callers_in (line_of line) ≤ caller_limit
 unfolding line_of

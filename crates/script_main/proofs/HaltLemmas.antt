@@ -6,10 +6,10 @@ use Rattle.script_main.specs.declared.line.LineFault.TheVariants as faults
 use Rattle.script_main.specs.declared.fault.RunFault.{RunFault}
 use Rattle.script_main.specs.declared.fault.RunFault.TheVariants as stops
 use Rattle.script_main.specs.Scripts.{line_limit, IsOneLine, Bad, lines_of, bad_line_of, line_of}
-use Rattle.script_main.specs.Runs.{Reads}
+use Rattle.script_main.specs.Runs.{ReadsLines}
 use Rattle.script_main.specs.Readings.{halt_at, IsHalt}
 use Rattle.script_main.proofs.PieceLemmas.{lines_of-long}
-use Rattle.script_main.proofs.ReadLemmas.{Reads-bad_line}
+use Rattle.script_main.proofs.ReadLemmas.{ReadsLines-bad_line}
 
 first-bad : (n : ℕ) (script line : List ℕ) (others : List (List ℕ)) → lines_of script ≡ line ∷ others → line_of line ≡ Bad → bad_line_of n script ≡ Some (n + 1)
 unfolding bad_line_of
@@ -26,9 +26,9 @@ keep-halt faults.Bad n text more one long =
     first-bad n (text ++ more) first.0 first.1 first.3 first.2
 keep-halt faults.OutOfMemory n text more one long = tt
 
-pub halt-behind : (fault : RunFault) (n i : ℕ) (text rest : List ℕ) (lines : List (List ℕ)) (more : List ℕ) → Reads n text lines i rest → IsHalt fault i (rest ++ more)
+pub halt-behind : (fault : RunFault) (n i : ℕ) (text rest : List ℕ) (lines : List (List ℕ)) (more : List ℕ) → ReadsLines n text lines i rest → IsHalt fault i (rest ++ more)
     → IsHalt fault n (text ++ more)
-halt-behind (stops.BadLine k) n i text rest lines more a h = Reads-bad_line n i text rest lines a more ∙ h
+halt-behind (stops.BadLine k) n i text rest lines more a h = ReadsLines-bad_line n i text rest lines a more ∙ h
 halt-behind stops.OutOfMemory n i text rest lines more a h = tt
 halt-behind stops.Read n i text rest lines more a h = absurd h
 halt-behind stops.Write n i text rest lines more a h = absurd h

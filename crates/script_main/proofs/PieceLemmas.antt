@@ -1,12 +1,12 @@
 -- The lines of a script, cut at its line feeds.
--- `pieces-line`: a line and its line feed are the first piece; `one-piece`: a text with no line feed is one piece;
+-- `cut_lines-line`: a line and its line feed are the first piece; `one-piece`: a text with no line feed is one piece;
 -- `lines_of-line`, `lines_of-last`, `lines_of-long` say the same of lines.
 use Rattle.std.proofs.Common.{◌≡◌, ℕ, ◌<◌, Bool, true, false, eqb, not, ◌&&◌, List, [], ◌∷◌, ◌++◌, length, refl, sym, ap, ◌∙◌, arith, append_assoc}
 use Rattle.std.specs.List.{list_all}
 use Rattle.std.proofs.lemmas.List.{length-append}
 use Rattle.std.proofs.lemmas.Bool.{lt-ltb}
 use Rattle.std.proofs.Math.Dec.{eqb-suc-zero}
-use Rattle.script_main.specs.Scripts.{Bad, IsOneLine, onto_first, pieces, but_empty_last, lines_of, line_of, line_limit}
+use Rattle.script_main.specs.Scripts.{Bad, IsOneLine, onto_first_line, cut_lines, but_empty_last, lines_of, line_of, line_limit}
 
 no-feed-by : (t r : Bool) → not t && r ≡ true → (t ≡ false) × (r ≡ true)
 no-feed-by true r h = absurd cc
@@ -22,45 +22,45 @@ IsOneLine-append (b ∷ bs) more h k =
     let rest = IsOneLine-append bs more first.1 k in
     rw (first.0, rest) refl
 
-pub pieces-line : (line more : List ℕ) → IsOneLine line → pieces (line ++ 10 ∷ more) ≡ line ∷ pieces more
-pieces-line [] more h = refl
-pieces-line (b ∷ bs) more h =
+pub cut_lines-line : (line more : List ℕ) → IsOneLine line → cut_lines (line ++ 10 ∷ more) ≡ line ∷ cut_lines more
+cut_lines-line [] more h = refl
+cut_lines-line (b ∷ bs) more h =
     let first = no-feed-first b bs h in
-    rw first.0 (ap (onto_first b) (pieces-line bs more first.1))
+    rw first.0 (ap (onto_first_line b) (cut_lines-line bs more first.1))
 
-pub one-piece : (text : List ℕ) → IsOneLine text → pieces text ≡ text ∷ []
+pub one-piece : (text : List ℕ) → IsOneLine text → cut_lines text ≡ text ∷ []
 one-piece [] h = refl
 one-piece (b ∷ bs) h =
     let first = no-feed-first b bs h in
-    rw first.0 (ap (onto_first b) (one-piece bs first.1))
+    rw first.0 (ap (onto_first_line b) (one-piece bs first.1))
 
-pub pieces-some : (text : List ℕ) → (l : List ℕ) × (ls : List (List ℕ)) × (pieces text ≡ l ∷ ls)
-pieces-some [] = ([], [], refl)
-pieces-some (b ∷ bs) = by (eqb b 10) refl (pieces-some bs)
+pub cut_lines-some : (text : List ℕ) → (l : List ℕ) × (ls : List (List ℕ)) × (cut_lines text ≡ l ∷ ls)
+cut_lines-some [] = ([], [], refl)
+cut_lines-some (b ∷ bs) = by (eqb b 10) refl (cut_lines-some bs)
   where
-    by : (t : Bool) → eqb b 10 ≡ t → (l : List ℕ) × (ls : List (List ℕ)) × (pieces bs ≡ l ∷ ls) → (l : List ℕ) × (ls : List (List ℕ)) × (pieces (b ∷ bs) ≡ l ∷ ls)
-    by true e p = ([], pieces bs, rw e refl)
-    by false e p = (b ∷ p.0, p.1, rw e (ap (onto_first b) p.2))
+    by : (t : Bool) → eqb b 10 ≡ t → (l : List ℕ) × (ls : List (List ℕ)) × (cut_lines bs ≡ l ∷ ls) → (l : List ℕ) × (ls : List (List ℕ)) × (cut_lines (b ∷ bs) ≡ l ∷ ls)
+    by true e p = ([], cut_lines bs, rw e refl)
+    by false e p = (b ∷ p.0, p.1, rw e (ap (onto_first_line b) p.2))
 
 -- what comes behind a text with no line feed may go on with its piece
-long-piece : (text more : List ℕ) → IsOneLine text → (l : List ℕ) × (ls : List (List ℕ)) × (pieces (text ++ more) ≡ (text ++ l) ∷ ls)
-long-piece [] more h = pieces-some more
+long-piece : (text more : List ℕ) → IsOneLine text → (l : List ℕ) × (ls : List (List ℕ)) × (cut_lines (text ++ more) ≡ (text ++ l) ∷ ls)
+long-piece [] more h = cut_lines-some more
 long-piece (b ∷ bs) more h =
     let first = no-feed-first b bs h in
     let r = long-piece bs more first.1 in
-    (r.0, r.1, rw first.0 (ap (onto_first b) r.2))
+    (r.0, r.1, rw first.0 (ap (onto_first_line b) r.2))
 
-pub but_empty_last-more : (l text : List ℕ) → but_empty_last (l ∷ pieces text) ≡ l ∷ but_empty_last (pieces text)
-but_empty_last-more l text = let p = pieces-some text in rw p.2 refl
+pub but_empty_last-more : (l text : List ℕ) → but_empty_last (l ∷ cut_lines text) ≡ l ∷ but_empty_last (cut_lines text)
+but_empty_last-more l text = let p = cut_lines-some text in rw p.2 refl
 
-pub but_empty_last-append : (ls : List (List ℕ)) (text : List ℕ) → but_empty_last (ls ++ pieces text) ≡ ls ++ but_empty_last (pieces text)
+pub but_empty_last-append : (ls : List (List ℕ)) (text : List ℕ) → but_empty_last (ls ++ cut_lines text) ≡ ls ++ but_empty_last (cut_lines text)
 but_empty_last-append [] text = refl
 but_empty_last-append (l ∷ []) text = but_empty_last-more l text
 but_empty_last-append (l ∷ k ∷ ls) text = ap (λ (t : List (List ℕ)). l ∷ t) (but_empty_last-append (k ∷ ls) text)
 
 pub lines_of-line : (line more : List ℕ) → IsOneLine line → lines_of (line ++ 10 ∷ more) ≡ line ∷ lines_of more
 unfolding lines_of
-lines_of-line line more h = ap but_empty_last (pieces-line line more h) ∙ but_empty_last-more line more
+lines_of-line line more h = ap but_empty_last (cut_lines-line line more h) ∙ but_empty_last-more line more
 
 full-first : (l : List ℕ) (ls : List (List ℕ)) → 0 < length l → (ks : List (List ℕ)) × (but_empty_last (l ∷ ls) ≡ l ∷ ks)
 full-first [] ls lt = absurd (omega arith)

@@ -8,9 +8,9 @@ use Rattle.cvl_text.specs.declared.call.Call.{Call}
 use Rattle.script_main.specs.declared.fault.RunFault.{RunFault}
 use Rattle.script_main.specs.declared.fault.RunFault.TheVariants as stops
 use Rattle.script_main.specs.Scripts.{IsOneLine, lines_of, bad_line_of}
-use Rattle.script_main.specs.Runs.{Reads}
+use Rattle.script_main.specs.Runs.{ReadsLines}
 use Rattle.script_main.specs.Readings.{AreCallsOf, AddsCalls, IsHalt, IsReadInto}
-use Rattle.script_main.proofs.ReadLemmas.{Reads-none, Reads-then, Reads-behind, Reads-lines, Reads-bad_line, whole_lines-good}
+use Rattle.script_main.proofs.ReadLemmas.{ReadsLines-none, ReadsLines-then, ReadsLines-behind, ReadsLines-lines, ReadsLines-bad_line, whole_lines-good}
 use Rattle.script_main.proofs.CallLemmas.{AreCallsOf-none, AreCallsOf-more}
 use Rattle.script_main.proofs.HaltLemmas.{halt-behind}
 
@@ -19,7 +19,7 @@ pub record HasRead (input left : List ℕ) (lists : List (List Call)) (i : ℕ) 
   pub read : List ℕ
   pub lines : List (List ℕ)
   pub input_is : input ≡ read ++ left
-  pub reads : Reads 0 read lines i partial
+  pub reads : ReadsLines 0 read lines i partial
   pub calls : AreCallsOf lists lines
 
 abbrev pub ReadSoFar : Option (List ℕ) → Option (List ℕ) → List (List Call) → ℕ → List ℕ → Type 0
@@ -29,11 +29,11 @@ ReadSoFar (Some input) (Some left) lists i partial = HasRead input left lists i 
 
 pub ReadSoFar-start : (input : Option (List ℕ)) → ReadSoFar input input [] 0 []
 ReadSoFar-start None = tt
-ReadSoFar-start (Some input) = record { read = []; lines = []; input_is = refl; reads = Reads-none 0 []; calls = AreCallsOf-none }
+ReadSoFar-start (Some input) = record { read = []; lines = []; input_is = refl; reads = ReadsLines-none 0 []; calls = AreCallsOf-none }
 
 -- a block was read
 pub ReadSoFar-read : (input left rest : Option (List ℕ)) (lists : List (List Call)) (i : ℕ) (partial got : List ℕ) (lines : List (List ℕ)) (more : List (List Call)) (h : ℕ) (last : List ℕ)
-    → ReadSoFar input left lists i partial → Consumes left rest got → Reads i (partial ++ got) lines h last → AddsCalls lists more lines → ReadSoFar input rest more h last
+    → ReadSoFar input left lists i partial → Consumes left rest got → ReadsLines i (partial ++ got) lines h last → AddsCalls lists more lines → ReadSoFar input rest more h last
 ReadSoFar-read None left rest lists i partial got lines more h last p c r a = tt
 ReadSoFar-read (Some input) None rest lists i partial got lines more h last p c r a = absurd p
 ReadSoFar-read (Some input) (Some left) None lists i partial got lines more h last p c r a = absurd c
@@ -41,7 +41,7 @@ ReadSoFar-read (Some input) (Some left) (Some rest) lists i partial got lines mo
   read = p.read ++ got;
   lines = p.lines ++ lines;
   input_is = p.input_is ∙ ap (λ (t : List ℕ). p.read ++ t) c ∙ sym (append_assoc p.read got rest);
-  reads = Reads-then 0 i h (p.read ++ got) (partial ++ got) last p.lines lines (Reads-behind 0 i p.read partial got p.lines p.reads) r;
+  reads = ReadsLines-then 0 i h (p.read ++ got) (partial ++ got) last p.lines lines (ReadsLines-behind 0 i p.read partial got p.lines p.reads) r;
   calls = AreCallsOf-more lists more p.lines lines p.calls a;
 }
 
@@ -84,8 +84,8 @@ module _ (lists more : List (List Call)) (i : ℕ) (partial : List ℕ) where
       → IsReadInto (Ok tt) more input left
   last-whole input left p a good =
       let lines : lines_of input ≡ p.lines ++ lines_of partial =
-      ap lines_of p.input_is ∙ Reads-lines 0 i p.read partial p.lines p.reads [] ∙ ap (λ (t : List ℕ). p.lines ++ lines_of t) (append-nil partial) in (
-        ap (bad_line_of 0) p.input_is ∙ Reads-bad_line 0 i p.read partial p.lines p.reads [] ∙ ap (bad_line_of i) (append-nil partial) ∙ good,
+      ap lines_of p.input_is ∙ ReadsLines-lines 0 i p.read partial p.lines p.reads [] ∙ ap (λ (t : List ℕ). p.lines ++ lines_of t) (append-nil partial) in (
+        ap (bad_line_of 0) p.input_is ∙ ReadsLines-bad_line 0 i p.read partial p.lines p.reads [] ∙ ap (bad_line_of i) (append-nil partial) ∙ good,
         subst (AreCallsOf more) (sym lines) (AreCallsOf-more lists more p.lines (lines_of partial) p.calls a),
       )
 

@@ -9,10 +9,10 @@ use Rattle.script_main.specs.declared.fault.RunFault.{RunFault}
 use Rattle.script_main.specs.declared.fault.RunFault.TheVariants as stops
 use Rattle.script_main.specs.Scripts.{line_limit, IsOneLine, Bad, text_from, first_bad, lines_of, text_of, bad_line_of, bad_text, line_of, is_good, line_text, memory_after_line}
 use Rattle.script_main.specs.Streams.{Awaits, HasBegun}
-use Rattle.script_main.specs.Runs.{Serves, IsTextOfSome, IsFarewell, IsStop, IsCounted}
+use Rattle.script_main.specs.Runs.{ServesLines, IsTextOfSome, IsFarewell, IsStop, IsCounted}
 use Rattle.script_main.proofs.PieceLemmas.{lines_of-long}
 use Rattle.script_main.proofs.StreamLemmas.{Awaits-then, HasBegun-more, HasBegun-then}
-use Rattle.script_main.proofs.ServeLemmas.{Serves-text, Serves-bad_line, Serves-some}
+use Rattle.script_main.proofs.ServeLemmas.{ServesLines-text, ServesLines-bad_line, ServesLines-some}
 
 -- no line yet
 pub none-yet : (m : State) (n : ℕ) (script : List ℕ) → IsTextOfSome m n script []
@@ -91,16 +91,16 @@ keep-stop faults.OutOfMemory result m n text more waiting old new one long f = u
 
 -- a run that stopped behind what was served, of which waiting was not written
 pub stop-behind : (result : RunFault) (m k : State) (n i : ℕ) (text made rest more waiting : List ℕ) (old mid new : Option (List ℕ))
-    → Serves m n text made k i rest → Awaits old mid waiting made → IsStop result k i (rest ++ more) waiting mid new → IsStop result m n (text ++ more) [] old new
+    → ServesLines m n text made k i rest → Awaits old mid waiting made → IsStop result k i (rest ++ more) waiting mid new → IsStop result m n (text ++ more) [] old new
 stop-behind (stops.BadLine j) m k n i text made rest more waiting old mid new a w s = (
-  Serves-bad_line m k n i text made rest a more ∙ s.0,
-  subst (λ (t : List ℕ). Awaits old new [] t) (sym (Serves-text m k n i text made rest a more)) (Awaits-then old mid new waiting made (text_of k i (rest ++ more)) [] w s.1),
+  ServesLines-bad_line m k n i text made rest a more ∙ s.0,
+  subst (λ (t : List ℕ). Awaits old new [] t) (sym (ServesLines-text m k n i text made rest a more)) (Awaits-then old mid new waiting made (text_of k i (rest ++ more)) [] w s.1),
 )
 stop-behind stops.OutOfMemory m k n i text made rest more waiting old mid new a w s =
-    (made ++ s.0, Serves-some m k n i text made rest a more s.0 s.1, Awaits-then old mid new waiting made s.0 [] w s.2)
+    (made ++ s.0, ServesLines-some m k n i text made rest a more s.0 s.1, Awaits-then old mid new waiting made s.0 [] w s.2)
 stop-behind stops.Read m k n i text made rest more waiting old mid new a w s = absurd s
 stop-behind stops.Write m k n i text made rest more waiting old mid new a w s =
-    subst (λ (t : List ℕ). HasBegun old new t) (sym (Serves-text m k n i text made rest a more)) (HasBegun-then old mid new waiting made (text_of k i (rest ++ more)) w s)
+    subst (λ (t : List ℕ). HasBegun old new t) (sym (ServesLines-text m k n i text made rest a more)) (HasBegun-then old mid new waiting made (text_of k i (rest ++ more)) w s)
 stop-behind (stops.Stopped worker) m k n i text made rest more waiting old mid new a w s = absurd s
 stop-behind stops.Unfinished m k n i text made rest more waiting old mid new a w s = absurd s
 

@@ -22,13 +22,13 @@ AsksRoom (word ∷ []) room = (word ≡ decimal room) × IsLawfulRoom room
 AsksRoom (word ∷ also ∷ words) room = ⊥
 
 -- the words ask for a run of this mode in this room
-abbrev pub Asks : Mode → List (List ℕ) → ℕ → Type 0
-Asks mode [] room = ⊥
-Asks mode (word ∷ words) room = (word ≡ mode_word mode) × AsksRoom words room
+abbrev pub AsksRun : Mode → List (List ℕ) → ℕ → Type 0
+AsksRun mode [] room = ⊥
+AsksRun mode (word ∷ words) room = (word ≡ mode_word mode) × AsksRoom words room
 
 -- they ask for nothing that the program does
 abbrev pub AsksNothing : List (List ℕ) → Type 0
-AsksNothing words = (mode : Mode) (room : ℕ) → Asks mode words room → ⊥
+AsksNothing words = (mode : Mode) (room : ℕ) → AsksRun mode words room → ⊥
 
 -- what is written for them
 abbrev pub usage_text : List ℕ

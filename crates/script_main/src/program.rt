@@ -5,7 +5,7 @@ ghost use Rattle.std.specs.Fmt.{decimal};
 ghost use Rattle.vector_memory.specs.States.{IsLawfulRoom};
 ghost use Rattle.script_main.specs.declared.mode.Mode.{Mode};
 ghost use Rattle.script_main.specs.Runs.{IsCounted};
-ghost use Rattle.script_main.specs.Programs.{mode_word, AsksRoom, Asks, AsksNothing, RunsAs, HasRun, IsUsage, status_of};
+ghost use Rattle.script_main.specs.Programs.{mode_word, AsksRoom, AsksRun, AsksNothing, RunsAs, HasRun, IsUsage, status_of};
 
 use crate::fault::RunFault;
 use crate::mode::Mode;
@@ -71,7 +71,7 @@ fn asked_room(words: &[String]) -> Option<u64>
 /// The mode and the room that the words ask for.
 fn asked(words: &[String]) -> Option<(Mode, u64)>
     ensures { MatchOption result (AsksNothing (map string_bytes words.now))
-        (λ asked. Asks asked.0 (map string_bytes words.now) asked.1) }
+        (λ asked. AsksRun asked.0 (map string_bytes words.now) asked.1) }
 {
     let Some((mode, rest)) = words.split_first() else {
         return None;
@@ -147,7 +147,7 @@ pub fn run_program<R: Source, W: Sink>(
 ) -> u8
     requires readable { R.can_read reader.old }
     requires writable { W.can_write writer.old }
-    ensures run { (mode : Mode) (room : ℕ) → Asks mode (map string_bytes words.now) room → HasRun mode result room
+    ensures run { (mode : Mode) (room : ℕ) → AsksRun mode (map string_bytes words.now) room → HasRun mode result room
         (R.rest reader.old) (R.rest reader.new) (W.written writer.old) (W.written writer.new)
         (R.failures reader.old) (R.failures reader.new) (W.failures writer.old) (W.failures writer.new) }
     ensures usage { AsksNothing (map string_bytes words.now) → IsUsage result

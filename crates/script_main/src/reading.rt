@@ -2,7 +2,7 @@
 
 ghost use Rattle.std.specs.Prelude.{[], None, ◌≡◌, ◌≤◌, ◌<◌, ◌+◌, ◌^◌, ◌∷◌, ◌++◌, ℕ, List, IsTrue, IsErrOf, OnOk, IfErr, length, vec_len};
 ghost use Rattle.script_main.specs.Scripts.{line_limit, IsOneLine, Bad, line_of, is_good, lines_of, bad_line_of};
-ghost use Rattle.script_main.specs.Runs.{Reads};
+ghost use Rattle.script_main.specs.Runs.{ReadsLines};
 ghost use Rattle.script_main.specs.Readings.{lists_of, AddsCall, AddsCalls, halt_at, IsHalt};
 
 use crate::calls::read_line;
@@ -111,7 +111,7 @@ impl Reading {
         requires one_line { IsOneLine self.old.partial.items }
         requires short { vec_len self.old.partial ≤ line_limit }
         ensures read { OnOk result ((lines : List (List ℕ))
-            × Reads self.old.number (self.old.partial.items ++ text.now) lines self.new.number self.new.partial.items
+            × ReadsLines self.old.number (self.old.partial.items ++ text.now) lines self.new.number self.new.partial.items
             × AddsCalls (lists_of self.old.calls) (lists_of self.new.calls) lines) }
         ensures number { OnOk result (self.new.number + vec_len self.new.partial
             ≤ self.old.number + vec_len self.old.partial + length text.now) }

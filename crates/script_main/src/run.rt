@@ -5,7 +5,7 @@ ghost use Rattle.vector_memory.specs.States.{IsLawfulRoom, empty};
 ghost use Rattle.call_history.specs.Books.{memory_of};
 ghost use Rattle.script_main.specs.Scripts.{line_limit, IsOneLine, Bad, line_of, is_good, memory_after_line, line_text, lines_of, text_of, bad_line_of, bad_text};
 ghost use Rattle.script_main.specs.Streams.{Awaits, HasBegun};
-ghost use Rattle.script_main.specs.Runs.{Serves, IsFarewell, IsStop};
+ghost use Rattle.script_main.specs.Runs.{ServesLines, IsFarewell, IsStop};
 
 use crate::fault::RunFault;
 use crate::gather::{GATHERED, flush};
@@ -187,7 +187,7 @@ impl Run {
         requires short { vec_len self.old.partial ≤ line_limit }
         requires none { self.old.waiting.items ≡ [] }
         ensures served { OnOk result ((made : List ℕ)
-            × Serves (memory_of self.old.book) self.old.number (self.old.partial.items ++ text.now) made
+            × ServesLines (memory_of self.old.book) self.old.number (self.old.partial.items ++ text.now) made
             (memory_of self.new.book) self.new.number self.new.partial.items
             × Awaits (W.written writer.old) (W.written writer.new) [] made) }
         ensures number { OnOk result (self.new.number + vec_len self.new.partial

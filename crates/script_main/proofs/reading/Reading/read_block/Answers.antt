@@ -5,7 +5,7 @@ use Rattle.script_main.specs.declared.fault.RunFault.{RunFault}
 use Rattle.script_main.specs.Scripts.{IsOneLine, lines_of}
 use Rattle.script_main.specs.Readings.{lists_of, IsHalt}
 use Rattle.script_main.proofs.PieceLemmas.{lines_of-next}
-use Rattle.script_main.proofs.ReadLemmas.{Reads-none, Reads-next}
+use Rattle.script_main.proofs.ReadLemmas.{ReadsLines-none, ReadsLines-next}
 use Rattle.script_main.proofs.CallLemmas.{AddsCalls-none, AddsCalls-line, AddsCalls-then}
 use Rattle.script_main.proofs.HaltLemmas.{halt-behind}
 use Rattle.script_main.proofs.StopLemmas.{handed-out}
@@ -18,7 +18,7 @@ loop-end-init c =
       number = omega arith;
       one_line = c.requires.one_line;
       short = c.requires.short;
-      read = ([], Reads-none reading.number (reading.partial.items ++ c.args.text.now), AddsCalls-none (lists_of reading.calls));
+      read = ([], ReadsLines-none reading.number (reading.partial.items ++ c.args.text.now), AddsCalls-none (lists_of reading.calls));
     }
 
 pub loop-end-preserved : goal.loop-end-preserved
@@ -35,7 +35,7 @@ loop-end-preserved c =
     let line = partial ++ end in
     let text = first.partial.items ++ c.args.text.now in
     let lines = kept.read.0 in
-    let read = Reads-next first.number reading.number text partial c.loop-end.rest.now end after lines kept.read.1 split.0 kept.one_line split.1 said.good in
+    let read = ReadsLines-next first.number reading.number text partial c.loop-end.rest.now end after lines kept.read.1 split.0 kept.one_line split.1 said.good in
     let none : next.partial.items ≡ [] = said.partial in
     let empty : vec_len next.partial ≡ 0 = omega (arith, ap length none, next.partial.ok.0) in
     let cut : length c.loop-end.rest.now ≡ length end + (length after + 1) = omega (arith, simp length-append at (ap length split.0)) in

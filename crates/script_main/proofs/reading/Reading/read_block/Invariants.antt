@@ -1,6 +1,6 @@
 use Rattle.std.proofs.Common.{◌≤◌, ◌+◌, ◌++◌, ℕ, List, length, vec_len}
 use Rattle.script_main.specs.Scripts.{IsOneLine, line_limit}
-use Rattle.script_main.specs.Runs.{Reads}
+use Rattle.script_main.specs.Runs.{ReadsLines}
 use Rattle.script_main.specs.Readings.{lists_of, AddsCalls}
 use Rattle.script_main.proofs.reading.Reading.read_block.Given as goal
 
@@ -10,7 +10,7 @@ invariant-loop-end l = record {
   one_line : IsOneLine l.self.partial.items;
   short : vec_len l.self.partial ≤ line_limit;
   read : (lines : List (List ℕ))
-      × Reads l.fn.self.number (l.fn.self.partial.items ++ l.text) lines l.self.number (l.self.partial.items ++ l.rest)
+      × ReadsLines l.fn.self.number (l.fn.self.partial.items ++ l.text) lines l.self.number (l.self.partial.items ++ l.rest)
       × AddsCalls (lists_of l.fn.self.calls) (lists_of l.self.calls) lines;
 }
 

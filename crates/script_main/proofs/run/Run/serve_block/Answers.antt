@@ -8,7 +8,7 @@ use Rattle.script_main.specs.Runs.{IsStop}
 use Rattle.script_main.specs.Streams.{Awaits}
 use Rattle.script_main.proofs.PieceLemmas.{lines_of-next}
 use Rattle.script_main.proofs.StreamLemmas.{Awaits-start, Awaits-then}
-use Rattle.script_main.proofs.ServeLemmas.{Serves-none, Serves-next}
+use Rattle.script_main.proofs.ServeLemmas.{ServesLines-none, ServesLines-next}
 use Rattle.script_main.proofs.StopLemmas.{stop-behind, handed-out}
 use Rattle.script_main.proofs.run.Run.serve_block.Goals as goal
 
@@ -22,7 +22,7 @@ loop-end-init g c =
       number = omega arith;
       one_line = c.requires.one_line;
       short = c.requires.short;
-      served = ([], Serves-none (memory_of run.book) run.number (run.partial.items ++ c.args.text.now), subst (λ (t : List ℕ). Awaits old old t []) (sym c.requires.none) (Awaits-start old []));
+      served = ([], ServesLines-none (memory_of run.book) run.number (run.partial.items ++ c.args.text.now), subst (λ (t : List ℕ). Awaits old old t []) (sym c.requires.none) (Awaits-start old []));
     }
 
 pub loop-end-preserved : goal.loop-end-preserved
@@ -39,7 +39,7 @@ loop-end-preserved g c =
     let line = partial ++ end in
     let text = first.partial.items ++ c.args.text.now in
     let made = kept.served.0 in
-    let served = Serves-next (memory_of first.book) (memory_of run.book) first.number run.number text made partial c.loop-end.rest.now end after kept.served.1 split.0 kept.one_line split.1 said.good in
+    let served = ServesLines-next (memory_of first.book) (memory_of run.book) first.number run.number text made partial c.loop-end.rest.now end after kept.served.1 split.0 kept.one_line split.1 said.good in
     let none : next.partial.items ≡ [] = said.partial in
     let empty : vec_len next.partial ≡ 0 = omega (arith, ap length none, next.partial.ok.0) in
     let cut : length c.loop-end.rest.now ≡ length end + (length after + 1) = omega (arith, simp length-append at (ap length split.0)) in

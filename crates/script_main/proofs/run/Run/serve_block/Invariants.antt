@@ -2,7 +2,7 @@ use Rattle.std.proofs.Common.{◌≡◌, ◌≤◌, ◌+◌, ◌++◌, ℕ, List
 use Rattle.call_history.specs.Books.{memory_of}
 use Rattle.script_main.specs.Scripts.{IsOneLine, line_limit}
 use Rattle.script_main.specs.Streams.{Awaits}
-use Rattle.script_main.specs.Runs.{Serves}
+use Rattle.script_main.specs.Runs.{ServesLines}
 use Rattle.script_main.proofs.run.Run.serve_block.Given as goal
 
 abbrev pub invariant-loop-end : goal.invariant-loop-end
@@ -13,7 +13,7 @@ invariant-loop-end g l = record {
   one_line : IsOneLine l.self.partial.items;
   short : vec_len l.self.partial ≤ line_limit;
   served : (made : List ℕ)
-      × Serves (memory_of l.fn.self.book) l.fn.self.number (l.fn.self.partial.items ++ l.text) made (memory_of l.self.book) l.self.number (l.self.partial.items ++ l.rest)
+      × ServesLines (memory_of l.fn.self.book) l.fn.self.number (l.fn.self.partial.items ++ l.text) made (memory_of l.self.book) l.self.number (l.self.partial.items ++ l.rest)
       × Awaits (g.W.Sink.written l.fn.writer) (g.W.Sink.written l.writer) l.self.waiting.items made;
 }
 
