@@ -14,8 +14,7 @@ use Rattle.call_history.specs.History.{Begins}
 use Rattle.call_history.specs.Callers.{calls_by}
 use Rattle.call_history.specs.Books.{BookState}
 use Rattle.call_history.proofs.Beginnings.{begins_trans}
-use Rattle.request_slots.specs.Seating.{Machine}
-use Rattle.combiner.specs.Standing.{Standing, IsIdle, callers_of}
+use Rattle.combiner.specs.Standing.{Machine, Standing, IsIdle, callers_of}
 use Rattle.script_main.specs.declared.fault.RunFault.{RunFault}
 use Rattle.script_main.specs.declared.settled.Settled.{Settled}
 use Rattle.script_main.specs.declared.work.Worked.{Worked}

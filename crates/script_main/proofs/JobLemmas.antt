@@ -7,8 +7,7 @@ use Rattle.std.specs.List.{AllZip}
 use Rattle.std.proofs.lemmas.Slice.Zip.{AllZip-long}
 use Rattle.std.proofs.lemmas.List.{length-map}
 use Rattle.cvl_text.specs.declared.call.Call.{Call}
-use Rattle.request_slots.specs.Seating.{Machine}
-use Rattle.combiner.specs.Standing.{Standing, newcomer, newcomers, IsNewAt}
+use Rattle.combiner.specs.Standing.{Machine, Standing, newcomer, newcomers, IsNewAt}
 use Rattle.script_main.specs.declared.fault.RunFault.{RunFault}
 use Rattle.script_main.specs.declared.settled.Settled.{Settled}
 use Rattle.script_main.specs.declared.work.Worked.{Worked}

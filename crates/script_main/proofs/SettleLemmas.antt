@@ -13,9 +13,7 @@ use Rattle.call_history.specs.declared.entry.Entry.{Entry}
 use Rattle.call_history.specs.History.{Begins, call_of}
 use Rattle.call_history.specs.Callers.{entries_by, calls_by}
 use Rattle.call_history.proofs.CallerLemmas.{calls_by-append}
-use Rattle.request_slots.specs.Views.{left_calls}
-use Rattle.request_slots.specs.Seating.{Machine}
-use Rattle.combiner.specs.Standing.{Standing, IsIdle, callers_of}
+use Rattle.combiner.specs.Standing.{Machine, left_calls, Standing, IsIdle, callers_of}
 use Rattle.combiner.specs.Says.{HasOwnCalls}
 use Rattle.script_main.specs.Settles.{replies_by}
 use Rattle.script_main.specs.Workers.{reply_count, EachAt}

@@ -5,7 +5,7 @@ use Rattle.std.specs.Prelude.{All}
 use Rattle.std.specs.List.{AllZip}
 use Rattle.std.proofs.lemmas.Slice.Zip.{all_zipped_more}
 use Rattle.cvl_text.specs.declared.call.Call.{Call}
-use Rattle.request_slots.specs.Seating.{Machine}
+use Rattle.combiner.specs.Standing.{Machine}
 use Rattle.script_main.specs.declared.fault.RunFault.{RunFault}
 use Rattle.script_main.specs.declared.work.Worked.{Worked}
 use Rattle.script_main.specs.declared.threads.Job.{Job}

@@ -13,9 +13,7 @@ use Rattle.call_history.specs.History.{Begins, call_of, replay, replay_from, rep
 use Rattle.call_history.specs.Callers.{entries_by, calls_by}
 use Rattle.call_history.specs.Answers.{Answers}
 use Rattle.call_history.proofs.CallerLemmas.{calls_by-append}
-use Rattle.request_slots.specs.Seating.{Machine}
-use Rattle.request_slots.specs.declared.known.Phase.TheVariants.{Left}
-use Rattle.combiner.specs.Standing.{Standing, IsIdle, HasLeft, IsNewAt, Rests}
+use Rattle.combiner.specs.Standing.{Machine, Left, Standing, IsIdle, HasLeft, IsNewAt, Rests}
 use Rattle.combiner.specs.Says.{leaving, IsAnsweredAtLast}
 use Rattle.script_main.specs.Settles.{replies_by}
 use Rattle.script_main.specs.Gates.{MayPass}

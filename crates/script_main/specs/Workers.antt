@@ -10,8 +10,7 @@ use Rattle.call_history.specs.declared.entry.Entry.{Entry}
 use Rattle.call_history.specs.History.{Begins}
 use Rattle.call_history.specs.Callers.{calls_by}
 use Rattle.call_history.specs.Books.{BookState}
-use Rattle.request_slots.specs.Seating.{Machine}
-use Rattle.combiner.specs.Standing.{Standing, IsIdle, callers_of}
+use Rattle.combiner.specs.Standing.{Machine, Standing, IsIdle, callers_of}
 use Rattle.combiner.specs.Says.{seeing}
 use Rattle.script_main.specs.declared.fault.RunFault.{RunFault}
 use Rattle.script_main.specs.declared.fault.RunFault.TheVariants as stops
