@@ -8,13 +8,13 @@ ghost use Rattle.call_history.specs.Shown.{shown};
 
 use crate::entry::Entry;
 use cvl_calls::step;
+use scan_kernels::Execution;
 use std::alloc::Global;
-use std::thread::Threads;
 use vector_memory::{Memory, Name, OutOfMemory, Value};
 
 /// A new memory of this room, after the calls of the entries one by one.
 pub(crate) fn replayed(
-    rt: &(impl Threads + Sync),
+    execution: &impl Execution,
     alloc: Global,
     room: u64,
     entries: &[Entry],
@@ -24,7 +24,7 @@ pub(crate) fn replayed(
 {
     let mut memory = Memory::new(alloc, room)?;
     for entry in entries {
-        let Ok(_reply) = step(rt, alloc, &mut memory, &entry.call) else {
+        let Ok(_reply) = step(execution, alloc, &mut memory, &entry.call) else {
             return Err(OutOfMemory);
         };
     }

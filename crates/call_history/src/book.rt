@@ -12,9 +12,9 @@ use crate::audit::{holds_the_same, replayed};
 use crate::entry::Entry;
 use cvl_calls::step;
 use cvl_text::{Call, Reply};
+use scan_kernels::Execution;
 use std::alloc::Global;
 use std::marker::Model;
-use std::thread::Threads;
 use vector_memory::laws::memories_are_lawful;
 use vector_memory::{Memory, OutOfMemory};
 
@@ -61,7 +61,7 @@ impl Book {
     /// no history.
     pub fn run(
         &mut self,
-        rt: &(impl Threads + Sync),
+        execution: &impl Execution,
         alloc: Global,
         caller: u64,
         call: Call,
@@ -88,7 +88,7 @@ impl Book {
         let Ok(()) = self.entries.reserve(1) else {
             return Err((call, OutOfMemory));
         };
-        let Ok(reply) = step(rt, alloc, &mut self.memory, &call) else {
+        let Ok(reply) = step(execution, alloc, &mut self.memory, &call) else {
             return Err((call, OutOfMemory));
         };
         let place = self.entries.len() as u64;
@@ -147,11 +147,11 @@ impl Book {
 
     /// Runs the calls of the history anew, on a memory of its own, and answers whether names, their order and their values
     /// come out as they stand. They do in each book.
-    pub fn audit(&self, rt: &(impl Threads + Sync), alloc: Global) -> Result<bool, OutOfMemory>
+    pub fn audit(&self, execution: &impl Execution, alloc: Global) -> Result<bool, OutOfMemory>
         ensures { IfOk result IsTrue }
     {
         memories_are_lawful(&self.memory);
-        let anew = replayed(rt, alloc, self.memory.room(), &self.entries)?;
+        let anew = replayed(execution, alloc, self.memory.room(), &self.entries)?;
         Ok(holds_the_same(&anew, &self.memory))
     }
 

@@ -9,8 +9,8 @@ ghost use Rattle.combiner.specs.Passes.{Taking, IsBatch, IsRun, Telling, HasServ
 
 use call_history::{Book, Outcome, Request};
 use request_slots::{Seat, Slots};
+use scan_kernels::Execution;
 use std::alloc::Global;
-use std::thread::Threads;
 
 /// Tries each word in turn, once. The callers of the requests taken stand in `numbers`.
 fn take_all(
@@ -41,12 +41,12 @@ fn take_all(
 }
 
 /// Runs a request, and says what became of it.
-fn run(rt: &(impl Threads + Sync), alloc: Global, book: &mut Book, request: Request) -> Outcome
+fn run(execution: &impl Execution, alloc: Global, book: &mut Book, request: Request) -> Outcome
     requires { request.caller < 64 }
     ensures { IsRun book.old book.new request.caller request.call result }
 {
     let Request { caller, call } = request;
-    match book.run(rt, alloc, caller, call) {
+    match book.run(execution, alloc, caller, call) {
         Ok((place, reply)) => Outcome::Answered { place, reply },
         Err((call, _)) => Outcome::Refused(call),
     }
@@ -54,7 +54,7 @@ fn run(rt: &(impl Threads + Sync), alloc: Global, book: &mut Book, request: Requ
 
 /// Runs the requests in their order. What became of them stands in the same order.
 fn run_all(
-    rt: &(impl Threads + Sync),
+    execution: &impl Execution,
     alloc: Global,
     book: &mut Book,
     requests: &mut Vec<Request>,
@@ -72,7 +72,7 @@ fn run_all(
 {
     requests.reverse();
     while let Some(request) = requests.pop() {
-        let outcome = run(rt, alloc, book, request);
+        let outcome = run(execution, alloc, book, request);
         outcomes.push_reserved(outcome);
     }
 }
@@ -102,7 +102,7 @@ fn answer_all(
 
 /// Serves what all callers left, unless another caller has the desk. How many calls were taken.
 pub(crate) fn pass(
-    rt: &(impl Threads + Sync),
+    execution: &impl Execution,
     alloc: Global,
     slots: &Slots,
     seat: &mut Seat,
@@ -124,7 +124,7 @@ pub(crate) fn pass(
     let count = desk.requests.len();
     let open = &mut *desk;
     run_all(
-        rt,
+        execution,
         alloc,
         &mut open.book,
         &mut open.requests,

@@ -18,9 +18,9 @@ use crate::settled::Settled;
 use crate::streams::Sink;
 use call_history::Book;
 use cvl_text::{Reply, write_value};
+use scan_kernels::Execution;
 use segment_desc::OutOfMemory;
 use std::alloc::Global;
-use std::thread::Threads;
 use vector_memory::{Memory, Name, Value};
 
 /// A name and its value as a line. On an error a part of it may stand there.
@@ -154,7 +154,7 @@ fn put_memory<W: Sink>(
 
 /// Puts the length of a book's history behind what waits, and what its audit says.
 fn put_audit(
-    rt: &(impl Threads + Sync),
+    execution: &impl Execution,
     alloc: Global,
     waiting: &mut Vec<u8>,
     book: &Book,
@@ -163,7 +163,7 @@ fn put_audit(
         ≡ (waiting.old.items ++ history_text (length book.now.history)) ++ audit_text true) }
 {
     append_length(waiting, book.len())?;
-    let audit: &[u8] = if book.audit(rt, alloc)? {
+    let audit: &[u8] = if book.audit(execution, alloc)? {
         b"audit ok\n"
     } else {
         b"audit bad\n"
@@ -177,7 +177,7 @@ fn put_audit(
 ///
 /// It ends for want of memory and where a write fails, and a beginning of the report is written then.
 pub fn write_report<W: Sink>(
-    rt: &(impl Threads + Sync),
+    execution: &impl Execution,
     alloc: Global,
     settled: &Settled,
     writer: &mut W,
@@ -192,7 +192,7 @@ pub fn write_report<W: Sink>(
     let mut waiting = Vec::new(alloc);
     put_all_replies(&mut waiting, writer, &settled.replies)?;
     put_memory(alloc, &mut waiting, writer, settled.book.memory())?;
-    let Ok(()) = put_audit(rt, alloc, &mut waiting, &settled.book) else {
+    let Ok(()) = put_audit(execution, alloc, &mut waiting, &settled.book) else {
         return Err(RunFault::OutOfMemory);
     };
     write_waiting(&mut waiting, writer)

@@ -12,9 +12,9 @@ use crate::gather::{GATHERED, flush};
 use crate::line::{LineFault, keep_rest, serve_line, split_line};
 use crate::streams::{Failed, Sink, write_all};
 use call_history::Book;
+use scan_kernels::Execution;
 use segment_desc::OutOfMemory;
 use std::alloc::Global;
-use std::thread::Threads;
 
 /// A script under way on one book.
 #[derive(Drop)]
@@ -80,7 +80,7 @@ impl Run {
     /// Serves the line that these bytes end. Its reply waits.
     fn finish_line(
         &mut self,
-        rt: &(impl Threads + Sync),
+        execution: &impl Execution,
         alloc: Global,
         end: &[u8],
     ) -> Result<(), LineFault>
@@ -95,12 +95,12 @@ impl Run {
         ensures err { OnErr result (self.new.waiting.items ≡ self.old.waiting.items) }
     {
         if self.partial.is_empty() {
-            return serve_line(rt, alloc, &mut self.book, &mut self.waiting, end);
+            return serve_line(execution, alloc, &mut self.book, &mut self.waiting, end);
         }
         let Ok(()) = self.partial.extend_from_slice(end) else {
             return Err(LineFault::OutOfMemory);
         };
-        serve_line(rt, alloc, &mut self.book, &mut self.waiting, &self.partial)?;
+        serve_line(execution, alloc, &mut self.book, &mut self.waiting, &self.partial)?;
         self.partial.clear();
         Ok(())
     }
@@ -108,7 +108,7 @@ impl Run {
     /// Serves the line that these bytes end, and writes the replies that wait where they are many.
     fn serve_next<W: Sink>(
         &mut self,
-        rt: &(impl Threads + Sync),
+        execution: &impl Execution,
         alloc: Global,
         end: &[u8],
         writer: &mut W,
@@ -131,7 +131,7 @@ impl Run {
             (W.written writer.old) (W.written writer.new)) }
         ensures failed { result ≡ Err RunFault.Write → W.failures writer.old < W.failures writer.new }
     {
-        if let Err(fault) = self.finish_line(rt, alloc, end) {
+        if let Err(fault) = self.finish_line(execution, alloc, end) {
             return Err(stop(&mut self.waiting, self.number, fault, writer));
         }
         self.number += 1;
@@ -176,7 +176,7 @@ impl Run {
     /// Serves each line that ends in the text, writes the replies to them, and keeps what stands behind the last line feed.
     pub(crate) fn serve_block<W: Sink>(
         &mut self,
-        rt: &(impl Threads + Sync),
+        execution: &impl Execution,
         alloc: Global,
         text: &[u8],
         writer: &mut W,
@@ -205,7 +205,7 @@ impl Run {
     {
         let mut rest = text;
         while let Some((end, after)) = split_line(rest) {
-            self.serve_next(rt, alloc, end, writer)?;
+            self.serve_next(execution, alloc, end, writer)?;
             rest = after;
         }
         self.keep(rest, writer)
@@ -214,7 +214,7 @@ impl Run {
     /// Serves what stands behind the last line feed at the end of the input, and writes the reply to it.
     pub(crate) fn serve_last<W: Sink>(
         &mut self,
-        rt: &(impl Threads + Sync),
+        execution: &impl Execution,
         alloc: Global,
         writer: &mut W,
     ) -> Result<(), RunFault>
@@ -232,7 +232,7 @@ impl Run {
         if self.partial.is_empty() {
             return Ok(());
         }
-        self.serve_next(rt, alloc, &[], writer)?;
+        self.serve_next(execution, alloc, &[], writer)?;
         match flush(&mut self.waiting, writer) {
             Ok(()) => Ok(()),
             Err(_) => Err(RunFault::Write),

@@ -8,8 +8,8 @@ use crate::answers::Combined;
 use crate::caller::Caller;
 use crate::pass::pass;
 use crate::shared::Shared;
+use scan_kernels::Execution;
 use std::alloc::Global;
-use std::thread::Threads;
 
 impl Shared {
     /// Serves all calls that are left, unless another caller has the book, which cannot be with one caller. It does not wait.
@@ -17,7 +17,7 @@ impl Shared {
     /// of that.
     pub fn combine(
         &self,
-        rt: &(impl Threads + Sync),
+        execution: &impl Execution,
         alloc: Global,
         caller: &mut Caller,
     ) -> Combined
@@ -31,7 +31,7 @@ impl Shared {
         ensures few { IfServed result (λ calls waves kernels. calls ≤ callers_of self.now) }
         ensures rests { Rests caller.new }
     {
-        let Some(count) = pass(rt, alloc, &self.slots, &mut caller.seat, self.callers) else {
+        let Some(count) = pass(execution, alloc, &self.slots, &mut caller.seat, self.callers) else {
             return Combined::Busy;
         };
         let calls = count as u64;
