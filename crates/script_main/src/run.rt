@@ -100,7 +100,13 @@ impl Run {
         let Ok(()) = self.partial.extend_from_slice(end) else {
             return Err(LineFault::OutOfMemory);
         };
-        serve_line(execution, alloc, &mut self.book, &mut self.waiting, &self.partial)?;
+        serve_line(
+            execution,
+            alloc,
+            &mut self.book,
+            &mut self.waiting,
+            &self.partial,
+        )?;
         self.partial.clear();
         Ok(())
     }

@@ -31,7 +31,13 @@ impl Shared {
         ensures few { IfServed result (λ calls waves kernels. calls ≤ callers_of self.now) }
         ensures rests { Rests caller.new }
     {
-        let Some(count) = pass(execution, alloc, &self.slots, &mut caller.seat, self.callers) else {
+        let Some(count) = pass(
+            execution,
+            alloc,
+            &self.slots,
+            &mut caller.seat,
+            self.callers,
+        ) else {
             return Combined::Busy;
         };
         let calls = count as u64;
