@@ -73,7 +73,7 @@ fate_grown : (room : ℕ) (old mid more : List Entry) (k : ℕ) (calls : List Ca
 fate_grown room old mid more k calls (StandsAt place replies) same f = (same ∙ f.0, serves_grown room old mid more k calls place replies f.1)
 fate_grown room old mid more k calls (CameBack back) same f = (same ∙ f.0, f.1)
 
-caller_grown : (room : ℕ) (old mid more : List Entry) (k : ℕ) (asked : Option (List Call)) (o : Option Outcome) → calls_by k (mid ++ more) ≡ calls_by k mid → FitsCaller room old mid k asked o → FitsCaller room old (mid ++ more) k asked o
+pub caller_grown : (room : ℕ) (old mid more : List Entry) (k : ℕ) (asked : Option (List Call)) (o : Option Outcome) → calls_by k (mid ++ more) ≡ calls_by k mid → FitsCaller room old mid k asked o → FitsCaller room old (mid ++ more) k asked o
 caller_grown room old mid more k None o same f = same ∙ f
 caller_grown room old mid more k (Some calls) o same f = (f.0, f.1, fate_grown room old mid more k calls (fate_of f.0) same f.2)
 

@@ -1,5 +1,5 @@
 -- What a history has of one caller.
-use Rattle.std.specs.Prelude.{◌≡◌, ◌==◌, ◌<◌, ℕ, List, length, map, filter}
+use Rattle.std.specs.Prelude.{◌≡◌, ◌==◌, ◌<◌, ℕ, List, length, map, filter, slice_index}
 use Rattle.std.specs.List.{range_with_len, AllByRecursion}
 use Rattle.cvl_text.specs.declared.call.Call.{Call}
 use Rattle.call_history.specs.declared.entry.Entry.{Entry}
@@ -33,3 +33,7 @@ HasLawfulCallers history = AllByRecursion (λ e. e.caller < caller_limit) histor
 -- the entry by which a caller's call goes behind a history
 abbrev pub next_entry : List Entry → ℕ → Call → Entry
 next_entry history caller call = entry caller (length (calls_by caller history)) call
+
+-- the numbers are the next ticket of each caller: how many calls it has
+abbrev pub AreTickets : List ℕ → List Entry → Type 0
+AreTickets tickets history = (k : ℕ) → k < caller_limit → slice_index tickets k ≡ length (calls_by k history)

@@ -1,5 +1,5 @@
 -- How a batch of requests extends a history, said caller by caller.
-use Rattle.std.specs.Prelude.{◌≡◌, ◌==◌, ℕ, ◌+◌, ◌≤◌, List, [], ◌∷◌, ◌++◌, map, length, take, drop, Option, Some, None, if◌then◌else◌}
+use Rattle.std.specs.Prelude.{◌≡◌, ◌==◌, ℕ, ◌+◌, ◌≤◌, List, [], ◌∷◌, ◌++◌, map, length, take, drop, slice_get, Option, Some, None, if◌then◌else◌}
 use Rattle.cvl_text.specs.declared.call.Call.{Call}
 use Rattle.cvl_text.specs.Answers.{Answer, answer_of}
 use Rattle.call_history.specs.declared.entry.Entry.{Entry}
@@ -35,6 +35,15 @@ abbrev pub outcome_by : ℕ → List Request → List Outcome → Option Outcome
 outcome_by k [] os = None
 outcome_by k (r ∷ rs) [] = None
 outcome_by k (r ∷ rs) (o ∷ os) = if r.caller == k then Some o else outcome_by k rs os
+
+-- the outcome of a request of which nothing has become yet: its call back
+abbrev pub returned : Request → Outcome
+returned r = Refused r.call
+
+-- the place i has a request of caller k for this call, and no place before it has one of k
+pub record IsAskedAt (requests : List Request) (i k : ℕ) (call : Call) : Type 0 where
+  pub there : slice_get requests i ≡ Some (request k call)
+  pub first : request_by k (take i requests) ≡ None
 
 -- so many entries of a history, from a place on
 abbrev pub block_at : List Entry → ℕ → ℕ → List Entry

@@ -1,17 +1,16 @@
 -- How the fields of a book show its history, and what each book keeps.
-use Rattle.std.specs.Prelude.{◌≡◌, ◌<◌, ◌-◌, ℕ, length, slice_index, vec_len, vec_capacity}
+use Rattle.std.specs.Prelude.{◌≡◌, ◌-◌, vec_len, vec_capacity}
 use Rattle.call_history.specs.declared.book.Book.TheInside.{Inside}
 use Rattle.call_history.specs.Books.{BookState}
 use Rattle.call_history.specs.History.{replay}
-use Rattle.call_history.specs.Callers.{IsTicketed, HasLawfulCallers, caller_limit, calls_by}
+use Rattle.call_history.specs.Callers.{AreTickets, IsTicketed, HasLawfulCallers}
 
 abbrev pub book_state : Inside → BookState
 book_state b = record { history = b.entries.items; room = b.memory.room; spaces = vec_capacity b.entries - vec_len b.entries }
 
-pub record IsKept (b : Inside) : Type 0 where
+pub record KeepsHistory (b : Inside) : Type 0 where
   -- the memory is the history, replayed
   pub replayed : b.memory ≡ replay b.memory.room b.entries.items
   pub ticketed : IsTicketed b.entries.items
   pub lawful_callers : HasLawfulCallers b.entries.items
-  -- the next ticket of each caller is the number of its calls
-  pub counted : (k : ℕ) → k < caller_limit → slice_index b.tickets.value k ≡ length (calls_by k b.entries.items)
+  pub counted : AreTickets b.tickets.value b.entries.items

@@ -5,3 +5,4 @@ pub mod Fits
 pub mod Books
 pub mod Insides
 pub mod Shown
+pub mod Works

@@ -1,18 +1,20 @@
-ghost use Rattle.std.specs.Prelude.{◌≡◌, ◌==◌, ◌+◌, ◌<◌, ◌≤◌, ◌∷◌, ◌++◌, [], length, slice_get, Some, IfOk, IfErr, OnOk, OnErr, IsOk, IsTrue};
+ghost use Rattle.std.specs.Prelude.{◌≡◌, ◌==◌, ◌+◌, ◌<◌, ◌≤◌, ◌∷◌, ◌++◌, [], length, slice_get, Some, IfOk, IfErr, OnOk, OnErr, IsOk, IsTrue, vec_len, vec_capacity};
 ghost use Rattle.vector_memory.specs.States.{IsLawfulRoom};
 ghost use Rattle.cvl_text.specs.Tasks.{task_of};
 ghost use Rattle.cvl_text.specs.Answers.{answer_of};
-ghost use Rattle.cvl_calls.specs.Steps.{MayLackMemory, stepped};
+ghost use Rattle.cvl_calls.specs.Steps.{CountsStep, MayLackMemory, runs_on, stepped, work_on};
 ghost use Rattle.cvl_calls.specs.Runs.{TakesNoMemory};
 ghost use Rattle.call_history.specs.History.{reply_after};
 ghost use Rattle.call_history.specs.Books.{memory_of};
-ghost use Rattle.call_history.specs.Callers.{IsTicketed, HasLawfulCallers, next_entry};
+ghost use Rattle.call_history.specs.Callers.{AreTickets, IsTicketed, HasLawfulCallers, next_entry};
+ghost use Rattle.call_history.specs.Works.{IsWork};
 
 use crate::audit::{holds_the_same, replayed};
 use crate::entry::Entry;
-use cvl_calls::step;
+use crate::work::Work;
+use cvl_calls::{Product, apply, step_metered, target};
 use cvl_text::{Call, Reply};
-use scan_kernels::Execution;
+use scan_kernels::{Execution, Meter};
 use std::alloc::Global;
 use std::marker::Model;
 use vector_memory::laws::memories_are_lawful;
@@ -35,11 +37,55 @@ impl Model for Book {
 
     ghost Value = { BookState };
 
-    ghost use Rattle.call_history.specs.Insides.{book_state, IsKept};
+    ghost use Rattle.call_history.specs.Insides.{book_state, KeepsHistory};
 
     ghost view = { book_state };
 
-    ghost invariant = { IsKept };
+    ghost invariant = { KeepsHistory };
+}
+
+/// Writes a call behind the entries, with the caller's next ticket, and answers its place.
+fn enter(
+    entries: &mut Vec<Entry>,
+    tickets: &mut Box<[u64; CALLER_LIMIT]>,
+    caller: u64,
+    call: Call,
+) -> u64
+    requires caller { caller < CALLER_LIMIT }
+    requires space { vec_len entries.old < vec_capacity entries.old }
+    requires counted { AreTickets tickets.old.value entries.old.items }
+    requires ticketed { IsTicketed entries.old.items }
+    requires lawful_callers { HasLawfulCallers entries.old.items }
+    ensures place { result ≡ length entries.old.items }
+    ensures items { entries.new.items ≡ entries.old.items ++ next_entry entries.old.items caller call ∷ [] }
+    ensures capacity { vec_capacity entries.new ≡ vec_capacity entries.old }
+    ensures counted { AreTickets tickets.new.value entries.new.items }
+    ensures ticketed { IsTicketed entries.new.items }
+    ensures lawful_callers { HasLawfulCallers entries.new.items }
+{
+    let place = entries.len() as u64;
+    let ticket = tickets[caller as usize];
+    entries.push_reserved(Entry {
+        caller,
+        ticket,
+        call,
+    });
+    tickets[caller as usize] = ticket + 1;
+    place
+}
+
+/// Stores or says what a call made of the memory.
+fn done(memory: &mut Memory, call: &Call, work: Work) -> Result<Reply, OutOfMemory>
+    requires { IsWork work (work_on memory.old (task_of call.now)) }
+    ensures ok { IfOk result (λ reply. stepped memory.old (task_of call.now)
+        ≡ record { memory = memory.new; answer = answer_of reply }) }
+    ensures err { OnErr result (memory.new ≡ memory.old) }
+{
+    memories_are_lawful(memory);
+    match work {
+        Work::Say(reply) => Ok(reply),
+        Work::Store(value) => apply(memory, target(call), Product::Store(value)),
+    }
 }
 
 impl Book {
@@ -85,20 +131,77 @@ impl Book {
             OnErr result (MayLackMemory (memory_of self.old) (task_of call)) }
         ensures answered { 0 < self.old.spaces → TakesNoMemory (task_of call).word → IsOk result }
     {
+        self.run_metered(execution, alloc, &mut Meter::new(), caller, call)
+    }
+
+    /// `run` with a meter handed in, which rises by one where a kernel ran.
+    pub fn run_metered(
+        &mut self,
+        execution: &impl Execution,
+        alloc: Global,
+        meter: &mut Meter,
+        caller: u64,
+        call: Call,
+    ) -> Result<(u64, Reply), (Call, OutOfMemory)>
+        requires { caller < CALLER_LIMIT }
+        ensures history { OnOk result (self.new.history
+            ≡ self.old.history ++ next_entry self.old.history caller call ∷ []) }
+        ensures place { IfOk result (λ answer. answer.0 ≡ length self.old.history) }
+        ensures reply { IfOk result (λ answer. answer_of answer.1 ≡ reply_after self.old.room self.old.history call) }
+        ensures memory { OnOk result (memory_of self.new ≡ (stepped (memory_of self.old) (task_of call)).memory) }
+        ensures one_space { OnOk result (self.old.spaces ≤ self.new.spaces + 1) }
+
+        ensures back { IfErr result (λ refused. refused.0 ≡ call) }
+        ensures unchanged { OnErr result (self.new.history ≡ self.old.history) }
+        ensures spaces_kept { OnErr result (self.old.spaces ≤ self.new.spaces) }
+
+        ensures room { self.new.room ≡ self.old.room }
+        ensures counted { CountsStep (runs_on (memory_of self.old) (task_of call)) result meter.old meter.new }
+
+        // In space that was reserved it is refused only where a step is.
+        ensures lacks { 0 < self.old.spaces →
+            OnErr result (MayLackMemory (memory_of self.old) (task_of call)) }
+        ensures answered { 0 < self.old.spaces → TakesNoMemory (task_of call).word → IsOk result }
+    {
         let Ok(()) = self.entries.reserve(1) else {
             return Err((call, OutOfMemory));
         };
-        let Ok(reply) = step(execution, alloc, &mut self.memory, &call) else {
+        let Ok(reply) = step_metered(execution, alloc, meter, &mut self.memory, &call) else {
             return Err((call, OutOfMemory));
         };
-        let place = self.entries.len() as u64;
-        let ticket = self.tickets[caller as usize];
-        self.entries.push_reserved(Entry {
-            caller,
-            ticket,
-            call,
-        });
-        self.tickets[caller as usize] = ticket + 1;
+        let place = enter(&mut self.entries, &mut self.tickets, caller, call);
+        Ok((place, reply))
+    }
+
+    /// `run` of a call whose work was done before, on a memory from which the call reads what it reads of this one.
+    pub fn run_with(
+        &mut self,
+        caller: u64,
+        call: Call,
+        work: Work,
+    ) -> Result<(u64, Reply), (Call, OutOfMemory)>
+        requires caller { caller < CALLER_LIMIT }
+        requires work { IsWork work (work_on (memory_of self.old) (task_of call)) }
+        ensures history { OnOk result (self.new.history
+            ≡ self.old.history ++ next_entry self.old.history caller call ∷ []) }
+        ensures place { IfOk result (λ answer. answer.0 ≡ length self.old.history) }
+        ensures reply { IfOk result (λ answer. answer_of answer.1 ≡ reply_after self.old.room self.old.history call) }
+        ensures memory { OnOk result (memory_of self.new ≡ (stepped (memory_of self.old) (task_of call)).memory) }
+        ensures one_space { OnOk result (self.old.spaces ≤ self.new.spaces + 1) }
+
+        ensures back { IfErr result (λ refused. refused.0 ≡ call) }
+        ensures unchanged { OnErr result (self.new.history ≡ self.old.history) }
+        ensures spaces_kept { OnErr result (self.old.spaces ≤ self.new.spaces) }
+
+        ensures room { self.new.room ≡ self.old.room }
+    {
+        let Ok(()) = self.entries.reserve(1) else {
+            return Err((call, OutOfMemory));
+        };
+        let Ok(reply) = done(&mut self.memory, &call, work) else {
+            return Err((call, OutOfMemory));
+        };
+        let place = enter(&mut self.entries, &mut self.tickets, caller, call);
         Ok((place, reply))
     }
 

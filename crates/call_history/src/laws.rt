@@ -1,6 +1,6 @@
 //! Laws of the definitions that the contracts cite: each function does nothing, and its contract is the law.
 
-ghost use Rattle.std.specs.Prelude.{◌≡◌, ◌≢◌, ◌+◌, ◌≤◌, ◌∷◌, ◌++◌, [], ℕ, List, Some, None, length, take, slice_get};
+ghost use Rattle.std.specs.Prelude.{◌≡◌, ◌≢◌, ◌+◌, ◌≤◌, ◌∷◌, ◌++◌, [], ℕ, List, Some, None, length, map, take, slice_get, slice_set};
 ghost use Rattle.vector_memory.specs.States.{State, empty, item_limit};
 ghost use Rattle.cvl_text.specs.declared.call.Call.{Call};
 ghost use Rattle.cvl_text.specs.declared.reply.Reply.{Reply};
@@ -12,7 +12,7 @@ ghost use Rattle.call_history.specs.declared.request.Outcome.TheVariants.{Answer
 ghost use Rattle.call_history.specs.History.{Begins, entry, replay, replay_from, replies_from, last_reply, reply_after};
 ghost use Rattle.call_history.specs.Callers.{calls_by};
 ghost use Rattle.call_history.specs.Answers.{Answers};
-ghost use Rattle.call_history.specs.Fits.{Fits, Serves, asked_by, request, request_by};
+ghost use Rattle.call_history.specs.Fits.{Fits, IsAskedAt, Serves, asked_by, request, request_by, returned};
 
 /// A history is replayed part by part, and keeps the room, and the limit that a memory is made with.
 pub fn replays_go_on()
@@ -71,6 +71,16 @@ pub fn batches_grow()
         → Fits room old rs mid os
         → Fits room old (rs ++ request k call ∷ []) (mid ++ entry k ticket call ∷ [])
         (os ++ Answered (length mid) reply ∷ []) }
+{}
+
+/// A batch whose outcomes stand in the order of the requests from the start: where each call came back it changed nothing, and
+/// a call that came back may be answered behind the history as it then stands, in whatever order.
+pub fn batches_fill()
+    ensures returned { (room : ℕ) (history : List Entry) (rs : List Request) → Fits room history rs history (map returned rs) }
+    ensures answered { (room : ℕ) (old mid : List Entry) (rs : List Request) (os : List Outcome) (i k ticket : ℕ)
+        (call : Call) (reply : Reply) → IsAskedAt rs i k call → slice_get os i ≡ Some (Refused call)
+        → answer_of reply ≡ reply_after room mid call → Fits room old rs mid os
+        → Fits room old rs (mid ++ entry k ticket call ∷ []) (slice_set os i (Answered (length mid) reply)) }
 {}
 
 /// A caller that had seen no more than the history before is answered at its own place: by a batch that serves its calls,

@@ -11,7 +11,9 @@ pub mod laws;
 mod request;
 #[cfg(test)]
 mod tests;
+mod work;
 
 pub use book::{Book, CALLER_LIMIT};
 pub use entry::Entry;
 pub use request::{Outcome, Request};
+pub use work::Work;

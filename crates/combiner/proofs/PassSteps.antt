@@ -1,7 +1,7 @@
 -- Each step of a pass leads to the next.
 -- `taking_misses` and `taking_hits` are the tries, `taking_batch` says that what was taken may be run, and `pass_serves` what the
 -- whole pass comes to.
-use Rattle.std.proofs.Common.{◌≡◌, ◌≢◌, ℕ, zero, suc, ◌+◌, ◌<◌, ◌≤◌, ◌==◌, eq-eqb, ne_eqb, ◌&&◌, ◌||◌, Bool, true, false, List, [], ◌∷◌, ◌++◌, map, length, take, set, lt_of_not-le, None, refl, sym, ap, ◌∙◌, subst, arith, length-append}
+use Rattle.std.proofs.Common.{◌≡◌, ◌≢◌, ℕ, zero, suc, ◌+◌, ◌<◌, ◌≤◌, ◌==◌, eq-eqb, ne_eqb, ◌||◌, Bool, true, false, List, [], ◌∷◌, ◌++◌, map, length, take, set, lt_of_not-le, None, refl, sym, ap, ◌∙◌, subst, arith, length-append}
 use Rattle.std.specs.List.{AllByRecursion}
 use mathlib.Core.Logic.{dite}
 use mathlib.Core.List.{map-append}
@@ -16,7 +16,8 @@ use Rattle.call_history.proofs.Beginnings.{begins_trans}
 use Rattle.call_history.proofs.Serving.{request_by-push_else}
 use Rattle.request_slots.specs.declared.known.Known.{Known}
 use Rattle.request_slots.specs.Passes.{is_in, tries, takes_on}
-use Rattle.request_slots.specs.Views.{pass_in, passing, locking, committing, unlocking, left_in}
+use Rattle.request_slots.specs.Changes.{holding, noting, settling}
+use Rattle.request_slots.specs.Views.{pass_in, passing, locking, committing, unlocking}
 use Rattle.request_slots.proofs.RequestLists.{distinct-push, request_by-middle}
 use Rattle.combiner.specs.Passes.{Taking, Telling, IsBatch, HasServed, asker}
 
@@ -97,25 +98,20 @@ inside_all callers (r ∷ rs) small none =
 pub taking_batch : (before now : Known) (callers : ℕ) (requests : List Request) (numbers : List ℕ) → callers ≤ caller_limit → Taking before now callers requests numbers → IsBatch requests
 taking_batch before now callers requests numbers small t = subst IsBatch (sym t.requests_are) record { distinct = t.distinct; lawful = inside_all callers (pass_in now).taken small t.untaken }
 
-and_true : (b : Bool) → (b && true) ≡ b
-and_true true = refl
-and_true false = refl
-
 -- the steps of a pass, one after the other
 pub pass_serves : (callers : ℕ) (c k1 k2 k3 k4 k5 : Known) (line book : List Entry) (outcomes : List Outcome) (requests : List Request) (numbers : List ℕ) → k1 ≡ locking c line
     → Taking k1 k2 callers requests numbers → Begins line book → k3 ≡ committing k2 (pass_in k2) book outcomes → Telling callers k3 k4 [] numbers 0 → k5 ≡ unlocking k4 (pass_in k4)
-    → c.number < callers → Begins c.seen line → HasServed c k5 (length requests)
+    → c.standing.number < callers → Begins c.standing.seen line → HasServed c k5 (length requests)
 pass_serves callers c k1 k2 k3 k4 k5 line book outcomes requests numbers locked t grows committed told unlocked inside saw =
     let second : k2 ≡ passing (locking c line) (pass_in k2) = t.now_is ∙ ap (λ (k : Known). passing k (pass_in k2)) locked in
     let third : k3 ≡ committing (locking c line) (pass_in k2) book outcomes = committed ∙ ap (λ (k : Known). committing k (pass_in k2) book outcomes) second in
     let fourth : k4 ≡ passing (committing (locking c line) (pass_in k2) book outcomes) (pass_in k4) = told.now_is ∙ ap (λ (k : Known). passing k (pass_in k4)) third in
     let fifth : k5 ≡ unlocking (passing (committing (locking c line) (pass_in k2) book outcomes) (pass_in k4)) (pass_in k4) = unlocked ∙ ap (λ (k : Known). unlocking k (pass_in k4)) fourth in
     let seen : (pass_in k4).line ≡ book = told.line_is ∙ ap (λ (k : Known). (pass_in k).line) committed in
-    let tried : is_in (pass_in k4).tried c.number ≡ true =
-    ap (λ (l : List ℕ). is_in l c.number) (told.tried_is ∙ ap (λ (k : Known). (pass_in k).tried) committed) ∙ t.tried c.number inside in
-    let own : (left_in c.phase && is_in (pass_in k4).tried c.number) ≡ left_in c.phase = ap (λ b. left_in c.phase && b) tried ∙ and_true (left_in c.phase) in
+    let tried : is_in (pass_in k4).tried c.standing.number ≡ true =
+    ap (λ (l : List ℕ). is_in l c.standing.number) (told.tried_is ∙ ap (λ (k : Known). (pass_in k).tried) committed) ∙ t.tried c.standing.number inside in
     let counted : length requests ≡ length (pass_in k2).taken = ap length t.requests_are in (
       book,
-      begins_trans c.seen line book saw grows,
-      fifth ∙ (λ i. record c { seen = seen i; settled = c.settled || own i; held = true; passes = c.passes ++ sym counted i ∷ []; pass = None }),
+      begins_trans c.standing.seen line book saw grows,
+      fifth ∙ (λ i. record c { standing = settling (noting (holding c.standing) (sym counted i)) (seen i) (tried i); pass = None }),
     )

@@ -1,26 +1,28 @@
 -- The callers of a new machine.
--- `new_seats` says that the seats of a new table are new, `newcomers_are` who sits there, and `newcomers_new` what is known of them.
+-- `new_seats` says that the seats of a new table are new, `shown_are` what they show, and `newcomers_new` what is known of them.
 use Rattle.std.proofs.Common.{◌≡◌, ℕ, zero, suc, ◌+◌, ◌≤◌, List, [], ◌∷◌, ◌++◌, map, append_assoc, refl, sym, ap, ◌∙◌, subst, arith}
 use Rattle.std.specs.Prelude.{All}
 use Rattle.std.proofs.lemmas.List.Elements.{All-append}
 use mathlib.Core.List.{map-append}
-use Rattle.request_slots.specs.Seating.{Machine, Seated, seated_at, seats_of}
-use Rattle.combiner.specs.Standing.{Standing, standing, newcomer, newcomers, IsNewAt, IsNewSeat}
+use Rattle.request_slots.specs.declared.known.Known.{Known}
+use Rattle.request_slots.specs.Views.{untold}
+use Rattle.combiner.specs.Standing.{Machine, Standing, standing, newcomer, newcomers, IsNewAt, IsNewSeat}
 
-new_each : (m : Machine) (room n : ℕ) → n + 1 ≤ m.slots → All IsNewSeat (seats_of m room n)
+new_each : (m : Machine) (room n : ℕ) → n + 1 ≤ m.slots → All IsNewSeat (map untold (newcomers m room n))
 new_each m room zero few = λ k d lt. absurd (omega arith)
-new_each m room (suc n) few = All-append IsNewSeat (seats_of m room n) (seated_at m room n ∷ []) (new_each m room n (omega arith)) last
+new_each m room (suc n) few = subst (All IsNewSeat) (sym (map-append untold (newcomers m room n) (newcomer m room n ∷ [])))
+    (All-append IsNewSeat (map untold (newcomers m room n)) (untold (newcomer m room n) ∷ []) (new_each m room n (omega arith)) last)
   where
-    last : All IsNewSeat (seated_at m room n ∷ [])
+    last : All IsNewSeat (untold (newcomer m room n) ∷ [])
     last zero d lt = record { idle = refl; resting = record { no_desk = refl; one_call = tt; inside = omega arith; rests = λ _. (refl, refl); no_strangers = λ _ _. refl } }
     last (suc k) d lt = absurd (omega arith)
 
-pub new_seats : (m : Machine) (room n : ℕ) (seats : List Seated) → n + 1 ≤ m.slots → seats ≡ seats_of m room n → All IsNewSeat seats
+pub new_seats : (m : Machine) (room n : ℕ) (seats : List Known) → n + 1 ≤ m.slots → seats ≡ map untold (newcomers m room n) → All IsNewSeat seats
 new_seats m room n seats few is = subst (All IsNewSeat) (sym is) (new_each m room n few)
 
-pub newcomers_are : (m : Machine) (room n : ℕ) → map standing (seats_of m room n) ≡ newcomers m room n
-newcomers_are m room zero = refl
-newcomers_are m room (suc n) = map-append standing (seats_of m room n) (seated_at m room n ∷ []) ∙ ap (λ l. l ++ newcomer m room n ∷ []) (newcomers_are m room n)
+pub shown_are : (cs : List Standing) → map standing (map untold cs) ≡ cs
+shown_are [] = refl
+shown_are (c ∷ cs) = ap (λ l. c ∷ l) (shown_are cs)
 
 new_at : (m : Machine) (room n : ℕ) → All (IsNewAt m room) (newcomers m room n)
 new_at m room zero = λ k d lt. absurd (omega arith)
@@ -34,7 +36,7 @@ pub newcomers_new : (m : Machine) (room n : ℕ) (callers : List Standing) → c
 newcomers_new m room n callers is = subst (All (IsNewAt m room)) (sym is) (new_at m room n)
 
 -- one more seat is given to a caller
-pub given_next : (given : List Standing) (seat : Seated) (before rest : List Seated) (all : List Standing) (c : Standing) → before ≡ seat ∷ rest → c ≡ standing seat → given ++ map standing before ≡ all → All IsNewSeat before
+pub given_next : (given : List Standing) (seat : Known) (before rest : List Known) (all : List Standing) (c : Standing) → before ≡ seat ∷ rest → c ≡ standing seat → given ++ map standing before ≡ all → All IsNewSeat before
     → ((given ++ c ∷ []) ++ map standing rest ≡ all) × All IsNewSeat rest
 given_next given seat before rest all c e is was new = (
   append_assoc given (c ∷ []) (map standing rest) ∙ (ap (λ d. given ++ d ∷ map standing rest) is ∙ (ap (λ l. given ++ map standing l) (sym e) ∙ was)),

@@ -1,6 +1,7 @@
 -- Outcomes that are told, the last one first.
--- `telling_last` says whose the last one is, and `telling_next` what stands once it is told.
+-- `telling_last` says whose the last one is, `next_asks` that its request was taken, and `telling_next` what stands once it is told.
 use Rattle.std.proofs.Common.{◌≡◌, ◌≢◌, ℕ, zero, suc, ◌+◌, ◌<◌, ◌==◌, Bool, true, false, cond, List, [], ◌∷◌, ◌++◌, map, length, take, get_or, append_assoc, append-nil, lt_of_not-le, Option, Some, None, refl, sym, ap, ◌∙◌, subst, arith, eq-eqb, ne_eqb, length-append}
+use Rattle.std.specs.Prelude.{is_some, IsSome}
 use mathlib.Core.List.{map-append}
 use Rattle.cvl_text.specs.declared.call.Call.{Call}
 use Rattle.call_history.specs.declared.request.Request.{Request}
@@ -68,6 +69,10 @@ pub record Next (callers : ℕ) (now : Known) (n : ℕ) (numbers : List ℕ) (o 
   pub inside : get_or numbers n 0 < callers
   pub before_numbers : take n numbers ≡ map asker earlier
   pub length_is : length earlier ≡ n
+
+-- the next one's request was taken
+pub next_asks : {callers : ℕ} {now : Known} {n : ℕ} {numbers : List ℕ} {o : Outcome} → Next callers now n numbers o → IsSome (request_by (get_or numbers n 0) (pass_in now).taken)
+next_asks {n} {numbers} next = ap is_some (ap (request_by (get_or numbers n 0)) next.last ∙ (middle_asks next.earlier [] (get_or numbers n 0) next.call).1)
 
 pub telling_last : (callers : ℕ) (before now : Known) (outcomes os : List Outcome) (o : Outcome) (numbers : List ℕ) (n : ℕ) → n ≡ length os → outcomes ≡ os ++ o ∷ []
     → Telling callers before now outcomes numbers (length outcomes) → Next callers now n numbers o

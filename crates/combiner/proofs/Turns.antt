@@ -1,7 +1,7 @@
 -- What a caller knows after a call.
 -- `collected_says` is an outcome as `poll` tells it; `waiting_begins`, `waiting_combines`, `waiting_answered`
 -- and `waiting_given_back` are the turns of `wait`.
-use Rattle.std.proofs.Common.{◌≡◌, ℕ, Bool, true, false, not, List, [], ◌∷◌, ◌++◌, append-nil, append_assoc, refl, sym, ap, ◌∙◌, subst}
+use Rattle.std.proofs.Common.{◌≡◌, ℕ, ◌+◌, Bool, true, false, not, List, [], ◌∷◌, ◌++◌, length, append-nil, append_assoc, refl, sym, ap, ◌∙◌, subst}
 use Rattle.cvl_text.specs.declared.call.Call.{Call}
 use Rattle.cvl_text.specs.declared.reply.Reply.{Reply}
 use Rattle.cvl_text.specs.Answers.{answer_of}
@@ -12,16 +12,15 @@ use Rattle.call_history.specs.History.{Begins}
 use Rattle.call_history.specs.Answers.{Answers}
 use Rattle.call_history.specs.Fits.{fate_of}
 use Rattle.call_history.proofs.Beginnings.{begins_self, begins_trans}
-use Rattle.request_slots.specs.declared.known.Known.{Known}
 use Rattle.request_slots.specs.declared.known.Phase.{Phase}
 use Rattle.request_slots.specs.declared.known.Phase.TheVariants.{Idle, Left}
-use Rattle.request_slots.specs.Views.{left_in, left_calls, left_start, longer, Collected}
-use Rattle.request_slots.specs.Seating.{Seated}
+use Rattle.request_slots.specs.Standing.{left_in, left_calls, left_start}
+use Rattle.request_slots.specs.Changes.{longer, answering_calls, Collected}
 use Rattle.combiner.specs.declared.answers.Polled.{Polled}
 use Rattle.combiner.specs.declared.answers.Polled.TheVariants as poll
 use Rattle.combiner.specs.declared.answers.Combined.{Combined}
 use Rattle.combiner.specs.declared.answers.Combined.TheVariants as combine
-use Rattle.combiner.specs.Standing.{Standing, standing, IsIdle, HasLeft, IsOneCall}
+use Rattle.combiner.specs.Standing.{Standing, IsIdle, HasLeft, IsOneCall}
 use Rattle.combiner.specs.Cases.{IfAnswered, IfBack, OnBusy, OnServed, IfServed}
 use Rattle.combiner.specs.Says.{leaving, meeting, serving, KeepsNotes, Continues, IsAnswered, IsAnsweredAtLast, IsWhatWasLeft, IsGivenBack, MeetsAnother}
 
@@ -37,40 +36,39 @@ pub has_left : (c : Standing) → IsOneCall c.phase → left_in c.phase ≡ true
 has_left c one left = let mine = one_left c.phase one left in (mine.0, left_start c.phase, mine.1)
 
 -- what became of the call that was left, as `poll` tells it
-collected_answers : (s s' : Seated) (place : ℕ) (reply : Reply) → IsOneCall s.known.phase → left_in s.known.phase ≡ true
-    → Collected s.known (left_calls s.known.phase) (left_start s.known.phase) (fate_of (Answered place reply)) s'.known → s'.table_id ≡ s.table_id → IsAnswered (standing s) (standing s') place reply
-collected_answers s s' place reply one left told at =
-    let mine = one_left s.known.phase one left in
-    let t = subst (λ (cs : List Call). Collected s.known cs (left_start s.known.phase) (fate_of (Answered place reply)) s'.known) mine.2 told in
-    let seen : s'.known.seen ≡ longer s.known.seen t.0 = ap (λ (k : Known). k.seen) t.5 in
+collected_answers : (c d : Standing) (place : ℕ) (reply : Reply) → IsOneCall c.phase → left_in c.phase ≡ true
+    → Collected c (fate_of (Answered place reply)) d → IsAnswered c d place reply
+collected_answers c d place reply one left told =
+    let mine = one_left c.phase one left in
+    let seen : d.seen ≡ longer c.seen told.0 = ap (λ (z : Standing). z.seen) told.5 in
     record {
       call = mine.0;
-      start = left_start s.known.phase;
-      history = t.0;
+      start = left_start c.phase;
+      history = told.0;
       left = mine.1;
-      ends_there = t.1;
-      answers = t.2;
-      after = λ i. standing record { table_id = at i; known = t.5 i };
-      later = subst (Begins s.known.seen) (sym seen) t.3;
-      whole = subst (Begins t.0) (sym seen) t.4;
+      ends_there = told.1 ∙ ap (λ (cs : List Call). place + length cs) mine.2;
+      answers = subst (λ (cs : List Call). Answers c.room (left_start c.phase) c.own c.number cs told.0 (answer_of reply ∷ [])) mine.2 told.2;
+      after = told.5 ∙ ap (λ (cs : List Call). answering_calls c cs told.0) mine.2;
+      later = subst (Begins c.seen) (sym seen) told.3;
+      whole = subst (Begins told.0) (sym seen) told.4;
     }
 
-collected_gives_back : (s s' : Seated) (call : Call) → IsOneCall s.known.phase → left_in s.known.phase ≡ true
-    → Collected s.known (left_calls s.known.phase) (left_start s.known.phase) (fate_of (Refused call)) s'.known → s'.table_id ≡ s.table_id → IsGivenBack (standing s) (standing s') call
-collected_gives_back s s' call one left told at =
-    let mine = one_left s.known.phase one left in
+collected_gives_back : (c d : Standing) (call : Call) → IsOneCall c.phase → left_in c.phase ≡ true
+    → Collected c (fate_of (Refused call)) d → IsGivenBack c d call
+collected_gives_back c d call one left told =
+    let mine = one_left c.phase one left in
     let same : call ∷ [] ≡ mine.0 ∷ [] = told.0 ∙ mine.2 in
     let call_is : mine.0 ≡ call = cc same in
-    (left_start s.known.phase, mine.1 ∙ ap (λ (c : Call). Left (c ∷ []) (left_start s.known.phase)) call_is, λ i. standing record { table_id = at i; known = told.1 i })
+    (left_start c.phase, mine.1 ∙ ap (λ (k : Call). Left (k ∷ []) (left_start c.phase)) call_is, told.1)
 
 abbrev pub polled_of : Outcome → Polled
 polled_of (Answered place reply) = poll.Answered place reply
 polled_of (Refused call) = poll.OutOfMemory call
 
-pub collected_says : (s s' : Seated) (o : Outcome) → IsOneCall s.known.phase → left_in s.known.phase ≡ true → Collected s.known (left_calls s.known.phase) (left_start s.known.phase) (fate_of o) s'.known → s'.table_id ≡ s.table_id
-    → IfAnswered (polled_of o) (IsAnswered (standing s) (standing s')) × IfBack (polled_of o) (IsGivenBack (standing s) (standing s'))
-collected_says s s' (Answered place reply) one left told at = (collected_answers s s' place reply one left told at, tt)
-collected_says s s' (Refused call) one left told at = (tt, collected_gives_back s s' call one left told at)
+pub collected_says : (c d : Standing) (o : Outcome) → IsOneCall c.phase → left_in c.phase ≡ true → Collected c (fate_of o) d
+    → IfAnswered (polled_of o) (IsAnswered c d) × IfBack (polled_of o) (IsGivenBack c d)
+collected_says c d (Answered place reply) one left told = (collected_answers c d place reply one left told, tt)
+collected_says c d (Refused call) one left told = (tt, collected_gives_back c d call one left told)
 
 continues_on : (a b c : List ℕ) → Continues a b → Continues b c → Continues a c
 continues_on a b c p q = (p.0 ++ q.0, q.1 ∙ (ap (λ l. l ++ q.0) p.1 ∙ append_assoc a p.0 q.0))

@@ -1,7 +1,7 @@
 -- A pass: each word is tried, what was taken is run, and after the commit each caller is told.
 -- `Taking` is a pass up to the last try, `IsBatch` what may be run in it, `IsRun` one call that is run, `Telling` a pass behind its
 -- commit, and `HasServed` what a whole pass comes to.
-use Rattle.std.specs.Prelude.{◌≡◌, ℕ, ◌<◌, ◌≤◌, true, false, ◌||◌, List, [], ◌∷◌, ◌++◌, length, map, take, reverse, None}
+use Rattle.std.specs.Prelude.{◌≡◌, ℕ, ◌<◌, ◌≤◌, true, false, List, [], ◌∷◌, ◌++◌, length, map, take, reverse, None}
 use Rattle.std.specs.List.{AllByRecursion}
 use Rattle.cvl_text.specs.declared.call.Call.{Call}
 use Rattle.call_history.specs.declared.entry.Entry.{Entry}
@@ -13,7 +13,8 @@ use Rattle.call_history.specs.Books.{BookState}
 use Rattle.call_history.specs.Fits.{request, request_by, Fits}
 use Rattle.request_slots.specs.declared.known.Known.{Known}
 use Rattle.request_slots.specs.Passes.{is_in}
-use Rattle.request_slots.specs.Views.{pass_in, passing, left_in, HasDesk}
+use Rattle.request_slots.specs.Changes.{serving}
+use Rattle.request_slots.specs.Views.{pass_in, passing, HasDesk}
 use Rattle.request_slots.specs.Seating.{IsDistinct}
 
 abbrev pub asker : Request → ℕ
@@ -71,7 +72,7 @@ pub record Telling (callers : ℕ) (before now : Known) (outcomes : List Outcome
 
 -- a caller that served so many calls in a pass has seen this line, and what it left has an outcome
 abbrev pub past : Known → List Entry → ℕ → Known
-past c line count = record c { seen = line; settled = c.settled || left_in c.phase; held = true; passes = c.passes ++ count ∷ []; pass = None }
+past c line count = record c { standing = serving c.standing line count; pass = None }
 
 abbrev pub HasServed : Known → Known → ℕ → Type 0
-HasServed before now count = (line : List Entry) × Begins before.seen line × (now ≡ past before line count)
+HasServed before now count = (line : List Entry) × Begins before.standing.seen line × (now ≡ past before line count)

@@ -3,8 +3,9 @@
 ghost use Rattle.std.specs.Prelude.{◌≡◌, ◌+◌, ◌<◌, ◌≤◌, [], length, None, Some, IfSome, IfNone, vec_len, vec_capacity};
 ghost use Rattle.call_history.specs.Fits.{Fits};
 ghost use Rattle.request_slots.specs.Passes.{fresh_pass};
-ghost use Rattle.request_slots.specs.Views.{pass_in, Meets, IsAtRest};
-ghost use Rattle.combiner.specs.Standing.{callers_of, IsOfCallers};
+ghost use Rattle.request_slots.specs.Views.{pass_in, with_standing};
+ghost use Rattle.combiner.specs.Standing.{callers_of, Rests, IsOfCallers};
+ghost use Rattle.combiner.specs.Says.{MeetsAnother};
 ghost use Rattle.combiner.specs.Passes.{Taking, IsBatch, IsRun, Telling, HasServed};
 
 use call_history::{Book, Outcome, Request};
@@ -20,13 +21,13 @@ fn take_all(
     requests: &mut Vec<Request>,
     numbers: &mut [u8; 64],
 )
-    requires place { seat.old.table_id ≡ slots.now }
+    requires place { seat.old.standing.machine ≡ slots.now }
     requires callers { (callers + 1 ≡ slots.now.slots) × (callers ≤ 64) }
-    requires pass { seat.old.known.pass ≡ Some (fresh_pass (pass_in seat.old.known).line) }
+    requires pass { seat.old.pass ≡ Some (fresh_pass (pass_in seat.old).line) }
     requires empty { requests.old.items ≡ [] }
     requires spaces { callers ≤ vec_capacity requests.old }
-    ensures place { seat.new.table_id ≡ slots.now }
-    ensures taken { Taking seat.old.known seat.new.known callers requests.new.items numbers.new }
+    ensures place { seat.new.standing.machine ≡ slots.now }
+    ensures taken { Taking seat.old seat.new callers requests.new.items numbers.new }
     ensures spaces { vec_capacity requests.new ≡ vec_capacity requests.old }
 {
     for i in 0..callers {
@@ -85,18 +86,18 @@ fn answer_all(
     numbers: &[u8; 64],
     outcomes: &mut Vec<Outcome>,
 )
-    requires place { seat.old.table_id ≡ slots.now }
+    requires place { seat.old.standing.machine ≡ slots.now }
     requires callers { (callers + 1 ≡ slots.now.slots) × (callers ≤ 64) }
     requires count { vec_len outcomes.old ≤ 64 }
-    requires telling { Telling callers seat.old.known seat.old.known outcomes.old.items numbers.now (vec_len outcomes.old) }
-    ensures place { seat.new.table_id ≡ slots.now }
-    ensures told { Telling callers seat.old.known seat.new.known [] numbers.now 0 }
+    requires telling { Telling callers seat.old seat.old outcomes.old.items numbers.now (vec_len outcomes.old) }
+    ensures place { seat.new.standing.machine ≡ slots.now }
+    ensures told { Telling callers seat.old seat.new [] numbers.now 0 }
     ensures empty { outcomes.new.items ≡ [] }
     ensures spaces { vec_capacity outcomes.new ≡ vec_capacity outcomes.old }
 {
     while let Some(outcome) = outcomes.pop() {
         let left = outcomes.len();
-        slots.step_answer(seat, numbers[left] as usize, left, 0, outcome);
+        slots.step_answer(seat, numbers[left] as usize, outcome);
     }
 }
 
@@ -108,15 +109,16 @@ pub(crate) fn pass(
     seat: &mut Seat,
     callers: usize,
 ) -> Option<usize>
-    requires place { seat.old.table_id ≡ slots.now }
+    requires place { seat.old.standing.machine ≡ slots.now }
     requires callers { (callers + 1 ≡ slots.now.slots) × (callers ≤ 64) }
-    requires no_desk { seat.old.known.pass ≡ None }
-    ensures place { seat.new.table_id ≡ slots.now }
-    ensures served { IfSome result (HasServed seat.old.known seat.new.known) }
+    requires no_desk { seat.old.pass ≡ None }
+    ensures place { seat.new.standing.machine ≡ slots.now }
+    ensures served { IfSome result (HasServed seat.old seat.new) }
     ensures few { IfSome result (λ count. count ≤ callers) }
-    ensures rests { IfSome result (λ _. IsAtRest seat.new.known) }
-    ensures no_strangers { IfSome result (λ _. IsOfCallers (callers_of seat.new.table_id) seat.new.known.seen) }
-    ensures busy { IfNone result (Meets slots.now.slots seat.old.known seat.new.known) }
+    ensures rests { IfSome result (λ _. Rests seat.new.standing) }
+    ensures no_strangers { IfSome result (λ _. IsOfCallers (callers_of seat.new.standing.machine) seat.new.standing.seen) }
+    ensures busy { IfNone result (MeetsAnother seat.old.standing seat.new.standing) }
+    ensures only_met { IfNone result (seat.new ≡ with_standing seat.old seat.new.standing) }
 {
     let mut desk = slots.step_lock(seat)?;
     let mut numbers = [0u8; 64];

@@ -1,6 +1,6 @@
 -- What the operands of a lawful memory read is within its limit, `operands_of-fits`, `ItemsFit`, and a result stores no value
 -- beyond the limit where each check before it leads to one, `MakesFitting-bind`, `MakesFitting-check`.
-use Rattle.std.proofs.Common.{◌≡◌, ℕ, ◌≤◌, Bool, true, false, cond, leb, List, [], ◌∷◌, length, None, Some, Result, Ok, Err, ℤ, pos, negsuc, refl, subst}
+use Rattle.std.proofs.Common.{◌≡◌, ℕ, ◌≤◌, Bool, true, false, cond, leb, List, [], ◌∷◌, length, None, Some, Result, Ok, Err, ℤ, pos, negsuc, refl, sym, subst}
 use Rattle.std.specs.List.{AllByRecursion}
 use Rattle.std.specs.Map.{lookup}
 use Rattle.std.proofs.lemmas.Bool.{leb-true}
@@ -18,6 +18,10 @@ use Rattle.cvl_calls.specs.Outcomes.{Operand, Held, NumberGiven, TruthGiven, Num
 pub bind_ok : {A B : Type 0} (r : Result A Fault) (f : A → Result B Fault) (y : B) → (r >>= f) ≡ Ok y → (x : A) × (r ≡ Ok x) × (f x ≡ Ok y)
 bind_ok (Ok x) f y e = (x, refl, e)
 bind_ok (Err d) f y e = absurd cc
+
+-- as many as are few enough
+pub same-few : {m n limit : ℕ} → m ≡ n → n ≤ limit → m ≤ limit
+same-few {limit = limit} e few = subst (λ (k : ℕ). k ≤ limit) (sym e) few
 
 pub check_ok : (b : Bool) (f : Fault) (u : Unit {0}) → check b f ≡ Ok u → b ≡ true
 check_ok true f u e = refl

@@ -1,7 +1,8 @@
 -- Permuted, gathered and packed items keep the limit.
-use Rattle.std.proofs.Common.{ℕ, length, sum, ap, arith}
+use Rattle.std.proofs.Common.{ℕ, length, sum, ap, sym, ◌∙◌}
 use Rattle.std.specs.Prelude.{◌==◌}
 use Rattle.std.specs.List.{list_all}
+use Rattle.std.proofs.Math.Nat.{le_trans}
 use Rattle.std.proofs.lemmas.Bool.{eqb-true}
 use Rattle.permute_kernels.specs.Permuted.{permuted, segmented_permute}
 use Rattle.permute_kernels.specs.Gathered.{gathered, segmented_gather}
@@ -14,7 +15,7 @@ use Rattle.cvl_calls.specs.Operands.{bools, ints, items, segs}
 use Rattle.cvl_calls.specs.Outcomes.{Operand}
 use Rattle.cvl_calls.specs.SegmentedPack.{segmented_pack}
 use Rattle.cvl_calls.specs.Work.{permute, permute_segments, gather, gather_segments, pack, pack_segments, pack_lengths}
-use Rattle.cvl_calls.proofs.Fitting.{IsFit, MakesFitting, MakesFitting-bind, MakesFitting-check, ints-short, items-fit, over_items-fits, segs-within, size-fits}
+use Rattle.cvl_calls.proofs.Fitting.{IsFit, MakesFitting, MakesFitting-bind, MakesFitting-check, ints-short, items-fit, over_items-fits, same-few, segs-within, size-fits}
 use Rattle.cvl_calls.proofs.Sizes.{length-packed-le, length-gathered, length-segmented_gather, length-permuted, length-segmented_permute, length-numbers_set}
 use Rattle.cvl_calls.proofs.Tested.{once-holds, permutes-hold}
 use Rattle.cvl_calls.proofs.Whole.{segmented_pack-joined}
@@ -28,7 +29,7 @@ permute-fits limit kind a i fit =
     MakesFitting-check limit (holds_each_place places) BadIndex _ (λ each.
     let few = size-fits limit kind a v fit was in
     let agree = eqb-true _ _ same in
-    record { fits = over_items-fits limit (λ X xs. permuted places xs) v (items-fit limit a fit kind v was) (λ X xs long. omega (arith, length-permuted places xs (once-holds places each) (omega arith))) }))))
+    record { fits = over_items-fits limit (λ X xs. permuted places xs) v (items-fit limit a fit kind v was) (λ X xs long. same-few (length-permuted places xs (once-holds places each) (sym (long ∙ agree))) (same-few long few)) }))))
 
 pub permute_segments-fits : (limit : ℕ) (kind : Kind) (a i s : Operand) → IsFit limit a → MakesFitting limit (permute_segments kind a i s)
 unfolding permute_segments
@@ -41,7 +42,7 @@ permute_segments-fits limit kind a i s fit =
     MakesFitting-check limit (permutes ls places) BadIndex _ (λ each.
     let few = size-fits limit kind a v fit was in
     let agree = eqb-true _ _ same in
-    record { fits = over_items-fits limit (λ X xs. segmented_permute ls places xs) v (items-fit limit a fit kind v was) (λ X xs long. omega (arith, length-segmented_permute ls places xs (permutes-hold ls places each) (omega arith))) }))))))
+    record { fits = over_items-fits limit (λ X xs. segmented_permute ls places xs) v (items-fit limit a fit kind v was) (λ X xs long. le_trans (length-segmented_permute ls places xs (permutes-hold ls places each) (sym (long ∙ agree))) (same-few long few)) }))))))
 
 pub gather-fits : (limit : ℕ) (kind : Kind) (a i : Operand) → IsFit limit a → IsFit limit i → MakesFitting limit (gather kind a i)
 unfolding gather
@@ -50,7 +51,7 @@ gather-fits limit kind a i fit fit_i =
     MakesFitting-bind limit (ints i) _ (λ places was_i.
     MakesFitting-check limit (list_all (is_place (size_of v)) places) BadIndex _ (λ _.
     let few = ints-short limit i fit_i places was_i in
-    record { fits = over_items-fits limit (λ X xs. gathered places xs) v (items-fit limit a fit kind v was) (λ X xs _. omega (arith, length-gathered places xs)) })))
+    record { fits = over_items-fits limit (λ X xs. gathered places xs) v (items-fit limit a fit kind v was) (λ X xs _. le_trans (length-gathered places xs) few) })))
 
 pub gather_segments-fits : (limit : ℕ) (kind : Kind) (a s i t : Operand) → IsFit limit a → IsFit limit i → MakesFitting limit (gather_segments kind a s i t)
 unfolding gather_segments
@@ -64,7 +65,7 @@ gather_segments-fits limit kind a s i t fit fit_i =
     MakesFitting-check limit (length ss == length ts) BadSegments _ (λ _.
     MakesFitting-check limit (lies_within ss ts places) BadIndex _ (λ _.
     let few = ints-short limit i fit_i places was_i in
-    record { fits = over_items-fits limit (λ X xs. segmented_gather ss xs ts places) v (items-fit limit a fit kind v was) (λ X xs _. omega (arith, length-segmented_gather ss ts xs places)) }))))))))
+    record { fits = over_items-fits limit (λ X xs. segmented_gather ss xs ts places) v (items-fit limit a fit kind v was) (λ X xs _. le_trans (length-segmented_gather ss ts xs places) few) }))))))))
 
 pub pack-fits : (limit : ℕ) (kind : Kind) (a f : Operand) → IsFit limit a → MakesFitting limit (pack kind a f)
 unfolding pack
@@ -73,7 +74,7 @@ pack-fits limit kind a f fit =
     MakesFitting-bind limit (bools f) _ (λ flags _.
     MakesFitting-check limit (size_of v == length flags) WrongLength _ (λ _.
     let few = size-fits limit kind a v fit was in
-    record { fits = over_items-fits limit (λ X xs. packed flags xs) v (items-fit limit a fit kind v was) (λ X xs long. omega (arith, length-packed-le flags xs)) })))
+    record { fits = over_items-fits limit (λ X xs. packed flags xs) v (items-fit limit a fit kind v was) (λ X xs long. le_trans (length-packed-le flags xs) (same-few long few)) })))
 
 pub pack_segments-fits : (limit : ℕ) (kind : Kind) (a f s : Operand) → IsFit limit a → MakesFitting limit (pack_segments kind a f s)
 unfolding pack_segments
@@ -88,7 +89,7 @@ pack_segments-fits limit kind a f s fit =
     let total = eqb-true _ _ all in
     record {
       fits = over_items-fits limit (λ X xs. segmented_pack ls flags xs) v (items-fit limit a fit kind v was) (λ X xs long.
-          omega (arith, ap length (segmented_pack-joined ls flags xs (omega arith) (omega arith)), length-packed-le flags xs));
+          same-few (ap length (segmented_pack-joined ls flags xs (total ∙ agree) (sym (long ∙ agree)))) (le_trans (length-packed-le flags xs) (same-few long few)));
     })))))
 
 pub pack_lengths-fits : (limit : ℕ) (f s : Operand) → IsFit limit s → MakesFitting limit (pack_lengths f s)
@@ -98,5 +99,4 @@ pack_lengths-fits limit f s fit =
     MakesFitting-bind limit (segs s) _ (λ ls was.
     MakesFitting-check limit (sum ls == length flags) BadSegments _ (λ _.
     let within = segs-within limit s fit ls was in
-    let same = length-numbers_set ls flags in
-    record { fits = omega (arith, within.0) })))
+    record { fits = same-few (length-numbers_set ls flags) within.0 })))

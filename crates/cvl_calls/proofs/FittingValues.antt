@@ -1,5 +1,5 @@
 -- Whole values keep the limit, and so do the forms of set and a vector with one item replaced.
-use Rattle.std.proofs.Common.{ℕ, ◌≤◌, leb, length, map, replicate, sum, pos, arith}
+use Rattle.std.proofs.Common.{ℕ, ◌≤◌, leb, length, map, replicate, sum, pos}
 use Rattle.std.specs.Prelude.{not, unsigned_abs, slice_set}
 use Rattle.std.proofs.lemmas.Bool.{leb-true}
 use Rattle.std.proofs.lemmas.List.{length-map, length-replicate, length-set}
@@ -10,7 +10,7 @@ use Rattle.cvl_calls.specs.Conditions.{is_place, found}
 use Rattle.cvl_calls.specs.Operands.{any_value, ints, segs, number, count, ItemType}
 use Rattle.cvl_calls.specs.Outcomes.{Operand}
 use Rattle.cvl_calls.specs.Work.{set, get, mov, free, alo, len, make_segs, len_segs, extract, replace}
-use Rattle.cvl_calls.proofs.Fitting.{IsFit, ItemsFit, MakesFitting, MakesFitting-bind, MakesFitting-check, any_value-fits, count-few, ints-short, segs-within}
+use Rattle.cvl_calls.proofs.Fitting.{IsFit, ItemsFit, MakesFitting, MakesFitting-bind, MakesFitting-check, any_value-fits, count-few, ints-short, same-few, segs-within}
 
 pub set-fits : {X : Type 0} (limit : ℕ) (type : ItemType X) (a : Operand) → ItemsFit limit type → MakesFitting limit (set limit type a)
 unfolding set
@@ -38,7 +38,7 @@ pub alo-fits : (limit : ℕ) (n : Operand) → MakesFitting limit (alo limit n)
 unfolding alo
 alo-fits limit n =
     MakesFitting-bind limit (count limit n) _ (λ many was.
-    let few : length (replicate many (pos 0)) ≤ limit = omega (arith, length-replicate many (pos 0), count-few limit n many was) in
+    let few : length (replicate many (pos 0)) ≤ limit = same-few (length-replicate many (pos 0)) (count-few limit n many was) in
     record { fits = few })
 
 pub make_segs-fits : (limit : ℕ) (a : Operand) → IsFit limit a → MakesFitting limit (make_segs limit a)
@@ -47,14 +47,14 @@ make_segs-fits limit a fit =
     MakesFitting-bind limit (ints a) _ (λ xs was.
     MakesFitting-check limit (not (has_negative xs)) BadSegments _ (λ _.
     MakesFitting-check limit (leb (sum (sizes xs)) limit) TooLong _ (λ small.
-    let few : length (sizes xs) ≤ limit = omega (arith, length-map xs unsigned_abs, ints-short limit a fit xs was) in
+    let few : length (sizes xs) ≤ limit = same-few (length-map xs unsigned_abs) (ints-short limit a fit xs was) in
     record { fits = (few, leb-true _ _ small) })))
 
 pub len_segs-fits : (limit : ℕ) (s : Operand) → IsFit limit s → MakesFitting limit (len_segs s)
 unfolding len_segs
 len_segs-fits limit s fit =
     MakesFitting-bind limit (segs s) _ (λ ls was.
-    let few : length (map pos ls) ≤ limit = omega (arith, length-map ls pos, (segs-within limit s fit ls was).0) in
+    let few : length (map pos ls) ≤ limit = same-few (length-map ls pos) (segs-within limit s fit ls was).0 in
     record { fits = few })
 
 pub extract-fits : (limit : ℕ) (a p : Operand) → MakesFitting limit (extract a p)
@@ -71,5 +71,5 @@ replace-fits limit a p x fit =
     MakesFitting-bind limit (number p) _ (λ place _.
     MakesFitting-bind limit (number x) _ (λ item _.
     MakesFitting-check limit (is_place (length xs) place) BadIndex _ (λ _.
-    let few : length (slice_set xs (unsigned_abs place) item) ≤ limit = omega (arith, length-set xs (unsigned_abs place) item, ints-short limit a fit xs was) in
+    let few : length (slice_set xs (unsigned_abs place) item) ≤ limit = same-few (length-set xs (unsigned_abs place) item) (ints-short limit a fit xs was) in
     record { fits = few }))))

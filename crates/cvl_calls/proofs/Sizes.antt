@@ -8,7 +8,7 @@ use Rattle.std.proofs.lemmas.Slice.Zip.{length-zip}
 use Rattle.segment_desc.specs.Cut.{cut}
 use Rattle.scan_kernels.specs.Distributed.{distributed}
 use Rattle.scan_kernels.specs.Elementwise.{item_by_item, selected}
-use Rattle.scan_kernels.specs.Indexed.{item_at as index_at, indexed, segmented_index}
+use Rattle.scan_kernels.specs.Indexed.{index_at, indexed, segmented_index}
 use Rattle.scan_kernels.specs.Segmented.{reduced, scanned, segmented_scan, segmented_reduce}
 use Rattle.permute_kernels.specs.Gathered.{item_at, gathered, segmented_gather}
 use Rattle.permute_kernels.specs.Indices.{HoldsEachPlaceOnce, PermuteSegments}

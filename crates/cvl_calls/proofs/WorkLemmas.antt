@@ -2,10 +2,10 @@
 use Rattle.std.proofs.Common.{◌≡◌, ℕ, zero, suc, Bool, List, [], ◌∷◌, Option, None, Some, Result, Ok, Err, pos, subst}
 use Rattle.std.specs.Prelude.{IfOk}
 use Rattle.std.specs.List.{AllByRecursion}
-use Rattle.scan_kernels.specs.IntegerOps.{apply_z, alter_z, compares}
-use Rattle.scan_kernels.specs.BooleanOps.{apply_b, alter_b}
-use Rattle.scan_kernels.specs.IntegerScans.{combine_z, unit_z}
-use Rattle.scan_kernels.specs.BooleanScans.{combine_b, unit_b}
+use Rattle.item_operations.specs.IntegerOps.{apply_z, alter_z, compares}
+use Rattle.item_operations.specs.BooleanOps.{apply_b, alter_b}
+use Rattle.item_operations.specs.IntegerScans.{combine_z, unit_z}
+use Rattle.item_operations.specs.BooleanScans.{combine_b, unit_b}
 use Rattle.scan_kernels.specs.Elementwise.{is_true, as_number}
 use Rattle.permute_kernels.specs.Gathered.{item_at}
 use Rattle.vector_memory.specs.declared.name.Name.{Name}
@@ -29,6 +29,8 @@ use Rattle.cvl_calls.specs.Operands.{any_value, ints, integers, number, truths}
 use Rattle.cvl_calls.specs.Outcomes.{Operand, Effect, Stores, Frees, Answers, GivesBy, IsFittingEffect}
 use Rattle.cvl_text.specs.declared.fault.Fault.{Fault}
 use Rattle.cvl_calls.specs.declared.stop.Stop.{Stop}
+use Rattle.cvl_calls.specs.declared.judged.Judged.{Judged}
+use Rattle.cvl_calls.specs.Judging.{IsReady, JudgesBy, made, word_of}
 use Rattle.cvl_calls.specs.Runs.{TakesNoMemory}
 use Rattle.cvl_calls.specs.Steps.{Grows}
 use Rattle.cvl_calls.specs.Work.{operand, free, len, extract, ask, of_one, of_two, of_three, work}
@@ -99,10 +101,23 @@ module _ (limit : ℕ) where
   work-fits words.Ext os h = extract-fits limit (operand os 0) (operand os 1)
   work-fits words.Rep os h = replace-fits limit (operand os 0) (operand os 1) (operand os 2) (operand-fits os 0 h)
 
--- what was returned stores no value beyond the limit, where what it stands for does not
-pub returned-fits : {X : Type 0} (limit : ℕ) (tested : Bool) (view : X → Effect) (r : Result X Stop) (said : Result Effect Fault) → GivesBy tested view r said → MakesFitting limit said → IfOk r (λ x. IsFittingEffect limit (view x))
-returned-fits limit tested view (Ok x) said gives fits = (subst (MakesFitting limit) gives fits).fits
-returned-fits limit tested view (Err e) said gives fits = tt
+-- what the checks returned: seen as what is to be made, with the word of the call, ready, and no value beyond the limit
+module _ (tested : Bool) (word : Word) (said : Result Effect Fault) where
+  pub judged-gives : (r : Result Judged Stop) → JudgesBy tested word said r → GivesBy tested made r said
+  judged-gives (Ok judged) h = h.0
+  judged-gives (Err stop) h = h
+
+  pub judged-word : (r : Result Judged Stop) → JudgesBy tested word said r → IfOk r (λ judged. word_of judged ≡ word)
+  judged-word (Ok judged) h = h.1
+  judged-word (Err stop) h = tt
+
+  pub judged-ready : (r : Result Judged Stop) → JudgesBy tested word said r → IfOk r IsReady
+  judged-ready (Ok judged) h = h.2
+  judged-ready (Err stop) h = tt
+
+  pub judged-fits : (limit : ℕ) (r : Result Judged Stop) → JudgesBy tested word said r → MakesFitting limit said → IfOk r (λ judged. IsFittingEffect limit (made judged))
+  judged-fits limit (Ok judged) h fits = (subst (MakesFitting limit) h.0 fits).fits
+  judged-fits limit (Err stop) h fits = tt
 
 -- an effect that stores nothing asks for no memory
 abbrev StoresNothing : Effect → Type 0

@@ -3,8 +3,8 @@ use Rattle.std.specs.Prelude.{ℕ, ℤ, pos, negsuc, Bool, false, not, ◌&&◌,
 use Rattle.std.specs.List.{list_all, range_with_len, zip}
 use Rattle.std.specs.Ordering.{int_eq}
 use Rattle.segment_desc.specs.Cut.{cut}
-use Rattle.scan_kernels.specs.declared.operation.Z2.{Z2}
-use Rattle.scan_kernels.specs.declared.operation.Z2.TheVariants.{Div, Mod, Lsh, Rsh}
+use Rattle.item_operations.specs.declared.operation.Z2.{Z2}
+use Rattle.item_operations.specs.declared.operation.Z2.TheVariants.{Div, Mod, Lsh, Rsh}
 use Rattle.permute_kernels.specs.Indices.{times_held}
 use Rattle.cvl_text.specs.declared.fault.Fault.{Fault}
 use Rattle.cvl_text.specs.declared.fault.Fault.TheVariants.{WrongLength, BadSegments, ZeroDivisor, BadShift}

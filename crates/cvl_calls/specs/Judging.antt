@@ -1,10 +1,10 @@
 -- A call in which no fault was found: its word, what the run of it makes, and what its operands keep.
-use Rattle.std.specs.Prelude.{◌≡◌, ◌<◌, pos, map, length, sum, replicate, slice_set, All, Some, None}
+use Rattle.std.specs.Prelude.{◌≡◌, ◌<◌, pos, Bool, map, length, sum, replicate, slice_set, All, Some, None, Result, Ok, Err}
 use Rattle.segment_desc.specs.Lengths.{IsWithinLimits, sizes}
-use Rattle.scan_kernels.specs.IntegerOps.{IsAllowed, apply_z, alter_z, compares}
-use Rattle.scan_kernels.specs.BooleanOps.{apply_b, alter_b}
-use Rattle.scan_kernels.specs.IntegerScans.{combine_z, unit_z}
-use Rattle.scan_kernels.specs.BooleanScans.{combine_b, unit_b}
+use Rattle.item_operations.specs.IntegerOps.{IsAllowed, apply_z, alter_z, compares}
+use Rattle.item_operations.specs.BooleanOps.{apply_b, alter_b}
+use Rattle.item_operations.specs.IntegerScans.{combine_z, unit_z}
+use Rattle.item_operations.specs.BooleanScans.{combine_b, unit_b}
 use Rattle.scan_kernels.specs.Elementwise.{item_by_item, selected, is_true, as_number}
 use Rattle.scan_kernels.specs.Segmented.{reduced, scanned, segmented_scan, segmented_reduce}
 use Rattle.scan_kernels.specs.Distributed.{distributed}
@@ -14,6 +14,7 @@ use Rattle.permute_kernels.specs.Gathered.{gathered, segmented_gather}
 use Rattle.permute_kernels.specs.Indices.{HoldsEachPlaceOnce, IsPlaceOf, LieWithin, PermuteSegments}
 use Rattle.permute_kernels.specs.Packed.{packed, numbers_set}
 use Rattle.vector_memory.specs.Contents.{Ints, Bools, Segs, content_of, size_of}
+use Rattle.cvl_text.specs.declared.fault.Fault.{Fault}
 use Rattle.cvl_text.specs.declared.word.Word.{Word}
 use Rattle.cvl_text.specs.declared.word.Word.TheVariants as words
 use Rattle.cvl_text.specs.declared.word.AskWord.TheVariants as asks
@@ -22,10 +23,11 @@ use Rattle.cvl_text.specs.declared.word.TwoWord.TheVariants as twos
 use Rattle.cvl_text.specs.declared.word.ThreeWord.TheVariants as threes
 use Rattle.cvl_text.specs.declared.word.Kind.TheVariants as kinds
 use Rattle.cvl_text.specs.Answers.{IntOf, BoolOf, VectorOf}
+use Rattle.cvl_calls.specs.declared.stop.Stop.{Stop}
 use Rattle.cvl_calls.specs.declared.judged.Judged.{Judged}
 use Rattle.cvl_calls.specs.declared.judged.Judged.TheVariants as judged
 use Rattle.cvl_calls.specs.Operands.{over_items}
-use Rattle.cvl_calls.specs.Outcomes.{Effect, Stores, Frees, Answers}
+use Rattle.cvl_calls.specs.Outcomes.{Effect, Stores, Frees, Answers, Fails}
 use Rattle.cvl_calls.specs.SegmentedPack.{segmented_pack}
 use Rattle.cvl_calls.specs.Views.{vector_of, kind_of}
 
@@ -138,3 +140,14 @@ IsReady (judged.PackSegments v f s) = (size_of (vector_of v) ≡ length f.now) �
 IsReady (judged.PackLengths f s) = sum s.now ≡ length f.now
 IsReady (judged.Rep a p x) = p < length a.now
 IsReady other = Unit {0}
+
+-- What the checks of a call of this word return, where the definition of its work says what comes of it: what is left to be
+-- done, ready to be run, or the first fault.
+abbrev pub Judges : Word → Result Effect Fault → Result Judged Fault → Type 0
+Judges word said (Ok judged) = (Ok (made judged) ≡ said) × (word_of judged ≡ word) × IsReady judged
+Judges word said (Err fault) = Err fault ≡ said
+
+-- The same where memory may run out in the checks.
+abbrev pub JudgesBy : Bool → Word → Result Effect Fault → Result Judged Stop → Type 0
+JudgesBy tested word said (Ok judged) = (said ≡ Ok (made judged)) × (word_of judged ≡ word) × IsReady judged
+JudgesBy tested word said (Err stop) = Fails tested stop said

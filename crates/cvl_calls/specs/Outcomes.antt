@@ -94,6 +94,6 @@ IsFault stops.OutOfMemory = ⊥
 IsFault (stops.Fault f) = Unit {0}
 
 -- a result or a fault came
-abbrev pub IsAnswered : {X : Type 0} → Result X Stop → Type 0
-IsAnswered (Ok x) = Unit {0}
-IsAnswered (Err e) = IsFault e
+abbrev pub IsDecided : {X : Type 0} → Result X Stop → Type 0
+IsDecided (Ok x) = Unit {0}
+IsDecided (Err e) = IsFault e

@@ -1,5 +1,6 @@
 -- One step of the machine.
-use Rattle.std.specs.Prelude.{◌≡◌, Option, Some, None, Result, Ok, Err}
+use Rattle.std.specs.Prelude.{◌≡◌, ◌⊎◌, ◌&&◌, Bool, true, false, is_ok, Option, Some, None, Result, Ok, Err}
+use Rattle.scan_kernels.specs.Metering.{Metered, raised}
 use Rattle.vector_memory.specs.declared.name.Name.{Name}
 use Rattle.vector_memory.specs.declared.memory.StoreFault.{StoreFault}
 use Rattle.vector_memory.specs.declared.memory.StoreFault.TheVariants as refusals
@@ -10,7 +11,7 @@ use Rattle.cvl_text.specs.declared.fault.Fault.TheVariants.{NoRoom, TooManyNames
 use Rattle.cvl_text.specs.Tasks.{Task, target}
 use Rattle.cvl_text.specs.Answers.{Answer, Done, FaultOf}
 use Rattle.cvl_calls.specs.Outcomes.{Effect, Stores, Frees, Answers, MayRunOut, operands_of}
-use Rattle.cvl_calls.specs.Runs.{tests_index}
+use Rattle.cvl_calls.specs.Runs.{runs_kernel, tests_index}
 use Rattle.cvl_calls.specs.Work.{work}
 
 -- a memory and a reply
@@ -41,12 +42,26 @@ abbrev pub followed : State → Option Name → Result Effect Fault → Stepped
 followed m to (Ok effect) = applied m to effect
 followed m to (Err fault) = record { memory = m; answer = FaultOf fault }
 
+-- what a call makes of what a memory holds, or its fault of 1 to 8
+abbrev pub work_on : State → Task → Result Effect Fault
+work_on m t = work m.limit t.word (operands_of m t.arguments)
+
 abbrev pub stepped : State → Task → Stepped
-stepped m t = followed m (target t) (work m.limit t.word (operands_of m t.arguments))
+stepped m t = followed m (target t) (work_on m t)
+
+-- whether the step of a call runs a kernel: its word does, and there is no fault of 1 to 8
+abbrev pub runs_on : State → Task → Bool
+runs_on m t = runs_kernel t.word && is_ok (work_on m t)
+
+-- A meter rises by one with the reply to a call that runs a kernel. Where memory was wanted, the kernel may have run.
+abbrev pub CountsStep : {X E : Type 0} → Bool → Result X E → Metered → Metered → Type 0
+CountsStep true (Ok x) old new = new ≡ raised old
+CountsStep true (Err e) old new = (new ≡ old) ⊎ (new ≡ raised old)
+CountsStep false r old new = new ≡ old
 
 -- What the call reads gives no fault, or one behind a test that takes memory: the one case in which a step may run out of it.
 abbrev pub MayLackMemory : State → Task → Type 0
-MayLackMemory m t = MayRunOut (tests_index t.word) (work m.limit t.word (operands_of m t.arguments))
+MayLackMemory m t = MayRunOut (tests_index t.word) (work_on m t)
 
 -- An effect that stores a value for which the memory has room: the one case in which its doing may run out of memory.
 abbrev pub Grows : State → Option Name → Effect → Type 0

@@ -4,10 +4,10 @@
 use Rattle.std.specs.Prelude.{ℕ, pos, unsigned_abs, not, List, length, map, sum, replicate, None, Result, Ok, nat_le, ◌==◌, unwrap_or, slice_get, slice_set}
 use Rattle.std.specs.List.{list_all}
 use Rattle.segment_desc.specs.Lengths.{has_negative, sizes}
-use Rattle.scan_kernels.specs.IntegerOps.{apply_z, alter_z, compares}
-use Rattle.scan_kernels.specs.BooleanOps.{apply_b, alter_b}
-use Rattle.scan_kernels.specs.IntegerScans.{combine_z, unit_z}
-use Rattle.scan_kernels.specs.BooleanScans.{combine_b, unit_b}
+use Rattle.item_operations.specs.IntegerOps.{apply_z, alter_z, compares}
+use Rattle.item_operations.specs.BooleanOps.{apply_b, alter_b}
+use Rattle.item_operations.specs.IntegerScans.{combine_z, unit_z}
+use Rattle.item_operations.specs.BooleanScans.{combine_b, unit_b}
 use Rattle.scan_kernels.specs.Elementwise.{item_by_item, selected, is_true, as_number}
 use Rattle.scan_kernels.specs.Segmented.{reduced, scanned, segmented_scan, segmented_reduce}
 use Rattle.scan_kernels.specs.Distributed.{distributed}

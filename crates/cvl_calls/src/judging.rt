@@ -2,8 +2,8 @@
 
 ghost use Rattle.std.specs.Prelude.{◌≡◌, false, IfOk, OnErr, true};
 ghost use Rattle.cvl_text.specs.Tasks.{task_of};
-ghost use Rattle.cvl_calls.specs.Judging.{IsReady, made, word_of};
-ghost use Rattle.cvl_calls.specs.Outcomes.{GivesBy, IsAnswered, IsFittingEffect, fault_in, operands_of, viewed};
+ghost use Rattle.cvl_calls.specs.Judging.{IsReady, Judges, JudgesBy, made, word_of};
+ghost use Rattle.cvl_calls.specs.Outcomes.{GivesBy, IsDecided, IsFittingEffect, fault_in, operands_of};
 ghost use Rattle.cvl_calls.specs.Runs.{tests_index};
 ghost use Rattle.cvl_calls.specs.Work.{work};
 
@@ -28,7 +28,7 @@ use vector_memory::laws::memories_are_lawful;
 pub fn judge<'a>(alloc: Global, memory: &'a Memory, call: &'a Call) -> Result<Judged<'a>, Stop>
     ensures gives { let task = task_of call.now in
         GivesBy (tests_index task.word) made result (work memory.now.limit task.word (operands_of memory.now task.arguments)) }
-    ensures answered { tests_index (task_of call.now).word ≡ false → IsAnswered result }
+    ensures answered { tests_index (task_of call.now).word ≡ false → IsDecided result }
     ensures word { IfOk result (λ judged. word_of judged ≡ (task_of call.now).word) }
     ensures ready { IfOk result IsReady }
     ensures fits { IfOk result (λ judged. IsFittingEffect memory.now.limit (made judged)) }
@@ -53,11 +53,9 @@ pub fn check(alloc: Global, memory: &Memory, call: &Call) -> Result<Option<Fault
 // A permutation is tested by marks, which take memory.
 #[inline(always)]
 fn by_shape<'a>(alloc: Global, memory: &'a Memory, call: &'a Call) -> Result<Judged<'a>, Stop>
-    ensures gives { let task = task_of call.now in
-        GivesBy (tests_index task.word) made result (work memory.now.limit task.word (operands_of memory.now task.arguments)) }
-    ensures answered { tests_index (task_of call.now).word ≡ false → IsAnswered result }
-    ensures word { IfOk result (λ judged. word_of judged ≡ (task_of call.now).word) }
-    ensures ready { IfOk result IsReady }
+    ensures judges { let task = task_of call.now in
+        JudgesBy (tests_index task.word) task.word (work memory.now.limit task.word (operands_of memory.now task.arguments)) result }
+    ensures answered { tests_index (task_of call.now).word ≡ false → IsDecided result }
 {
     match call {
         Call::Smp {
@@ -82,10 +80,8 @@ fn by_shape<'a>(alloc: Global, memory: &'a Memory, call: &'a Call) -> Result<Jud
 #[inline(always)]
 fn judge_at_once<'a>(memory: &'a Memory, call: &'a Call) -> Result<Judged<'a>, Fault>
     requires { tests_index (task_of call.now).word ≡ false }
-    ensures gives { let task = task_of call.now in
-        viewed made result ≡ work memory.now.limit task.word (operands_of memory.now task.arguments) }
-    ensures word { IfOk result (λ judged. word_of judged ≡ (task_of call.now).word) }
-    ensures ready { IfOk result IsReady }
+    ensures { let task = task_of call.now in
+        Judges task.word (work memory.now.limit task.word (operands_of memory.now task.arguments)) result }
 {
     match call {
         Call::SetInts { items, .. } => set_ints(memory.limit(), items),

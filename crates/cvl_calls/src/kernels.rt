@@ -1,114 +1,99 @@
 //! Kernels over what a call lends: the items of either type, and one segment where no segment list is named.
+//! Most are inlined: out of line each has a place for its answer in the frame of `run`, which is cleared at each call.
 
 ghost use Rattle.std.specs.Prelude.{[], ◌≡◌, ◌∷◌, IfOk};
+ghost use Rattle.item_operations.specs.BooleanScans.{combine_b, unit_b};
+ghost use Rattle.item_operations.specs.IntegerScans.{combine_z, unit_z};
 ghost use Rattle.scan_kernels.specs.Metering.{CountsRun};
-ghost use Rattle.vector_memory.specs.Contents.{Bools, Ints, content_of};
-ghost use Rattle.cvl_text.specs.Answers.{BoolOf, IntOf};
 ghost use Rattle.cvl_calls.specs.Judging.{IsReady, made};
-ghost use Rattle.cvl_calls.specs.Outcomes.{Answers, Stores};
+ghost use Rattle.cvl_calls.specs.Outcomes.{effect_of};
 
 use crate::judged::Judged;
 use crate::operands::Vector;
-use cvl_text::{ScanB, ScanZ};
-pub(crate) use permute_kernels::packed_lengths;
+use crate::product::Product;
+use crate::stored::{stored_bools, stored_ints};
+use cvl_text::{Reply, ScanB, ScanZ};
 use permute_kernels::{
     back_permute_b, back_permute_z, gather_b, gather_z, pack_b, pack_z, permute_b, permute_z,
 };
-pub(crate) use scan_kernels::{index, reduce_b, reduce_z};
-use scan_kernels::{Execution, Meter, distribute_b, distribute_z, scan_b, scan_z};
+use scan_kernels::{
+    Execution, Meter, distribute_b, distribute_z, index, reduce_b, reduce_z, scan_b, scan_z,
+};
 use segment_desc::{OutOfMemory, Segd};
 use std::alloc::Global;
-use vector_memory::Value;
 
 /// The segment list of one segment, which has all items.
+#[inline(always)]
 fn one_segment(alloc: Global, items: usize) -> Result<Segd, OutOfMemory>
     ensures { IfOk result (λ segments. segments ≡ items ∷ []) }
 {
     Segd::one(alloc, items as u64).map_err(|_| OutOfMemory)
 }
 
-/// A scan of all items, or of each segment.
+/// A scan of all items.
+#[inline(always)]
 pub(crate) fn scanned_z(
     execution: &impl Execution,
     alloc: Global,
     meter: &mut Meter,
     op: ScanZ,
     items: &[i64],
-    segments: Option<&Segd>,
-) -> Result<Vec<i64>, OutOfMemory>
-    requires { IsReady (Judged.ScanInts op items segments) }
-    ensures makes { IfOk result (λ v. Stores (Ints v.items) ≡ made (Judged.ScanInts op items.entry segments.entry)) }
+) -> Result<Product, OutOfMemory>
+    ensures makes { IfOk result (λ product. effect_of product ≡ made (Judged.ScanInts op items.entry None)) }
     ensures counted { CountsRun result meter.old meter.new }
 {
-    match segments {
-        Some(segments) => scan_z(execution, alloc, meter, op, items, segments),
-        None => scan_z(
-            execution,
-            alloc,
-            meter,
-            op,
-            items,
-            &one_segment(alloc, items.len())?,
-        ),
-    }
+    let whole = one_segment(alloc, items.len())?;
+    stored_ints(scan_z(execution, alloc, meter, op, items, &whole))
 }
 
-/// A scan of all items, or of each segment.
+/// A scan of all items.
+#[inline(always)]
 pub(crate) fn scanned_b(
     execution: &impl Execution,
     alloc: Global,
     meter: &mut Meter,
     op: ScanB,
     items: &[bool],
-    segments: Option<&Segd>,
-) -> Result<Vec<bool>, OutOfMemory>
-    requires { IsReady (Judged.ScanBools op items segments) }
-    ensures makes { IfOk result (λ v. Stores (Bools v.items) ≡ made (Judged.ScanBools op items.entry segments.entry)) }
+) -> Result<Product, OutOfMemory>
+    ensures makes { IfOk result (λ product. effect_of product ≡ made (Judged.ScanBools op items.entry None)) }
     ensures counted { CountsRun result meter.old meter.new }
 {
-    match segments {
-        Some(segments) => scan_b(execution, alloc, meter, op, items, segments),
-        None => scan_b(
-            execution,
-            alloc,
-            meter,
-            op,
-            items,
-            &one_segment(alloc, items.len())?,
-        ),
-    }
+    let whole = one_segment(alloc, items.len())?;
+    stored_bools(scan_b(execution, alloc, meter, op, items, &whole))
 }
 
 /// All items as one.
+#[inline(always)]
 pub(crate) fn reduced_z(
     execution: &impl Execution,
     alloc: Global,
     meter: &mut Meter,
     op: ScanZ,
     items: &[i64],
-) -> Result<i64, OutOfMemory>
-    ensures makes { IfOk result (λ v. Answers (IntOf v) ≡ made (Judged.ReduceInts op items.entry)) }
+) -> Result<Product, OutOfMemory>
+    ensures makes { IfOk result (λ product. effect_of product ≡ made (Judged.ReduceInts op items.entry)) }
     ensures counted { CountsRun result meter.old meter.new }
 {
     let whole = one_segment(alloc, items.len())?;
     let reduced = reduce_z(execution, alloc, meter, op, items, &whole)?;
-    Ok(reduced[0])
+    Ok(Product::Reply(Reply::Int(reduced[0])))
 }
 
 /// All items as one.
+#[inline(always)]
 pub(crate) fn reduced_b(
     execution: &impl Execution,
     alloc: Global,
     meter: &mut Meter,
     op: ScanB,
     items: &[bool],
-) -> Result<bool, OutOfMemory>
-    ensures makes { IfOk result (λ v. Answers (BoolOf v) ≡ made (Judged.ReduceBools op items.entry)) }
+) -> Result<Product, OutOfMemory>
+    ensures makes { IfOk result (λ product. effect_of product ≡ made (Judged.ReduceBools op items.entry)) }
     ensures counted { CountsRun result meter.old meter.new }
 {
     let whole = one_segment(alloc, items.len())?;
     let reduced = reduce_b(execution, alloc, meter, op, items, &whole)?;
-    Ok(reduced[0])
+    Ok(Product::Reply(Reply::Bool(reduced[0])))
 }
 
 /// The item so often.
@@ -118,12 +103,12 @@ pub(crate) fn repeated_z(
     meter: &mut Meter,
     item: i64,
     count: usize,
-) -> Result<Vec<i64>, OutOfMemory>
-    ensures makes { IfOk result (λ v. Stores (Ints v.items) ≡ made (Judged.RepeatInt item count)) }
+) -> Result<Product, OutOfMemory>
+    ensures makes { IfOk result (λ product. effect_of product ≡ made (Judged.RepeatInt item count)) }
     ensures counted { CountsRun result meter.old meter.new }
 {
     let whole = one_segment(alloc, count)?;
-    distribute_z(execution, alloc, meter, &[item], &whole)
+    stored_ints(distribute_z(execution, alloc, meter, &[item], &whole))
 }
 
 /// The item so often.
@@ -133,12 +118,12 @@ pub(crate) fn repeated_b(
     meter: &mut Meter,
     item: bool,
     count: usize,
-) -> Result<Vec<bool>, OutOfMemory>
-    ensures makes { IfOk result (λ v. Stores (Bools v.items) ≡ made (Judged.RepeatBool item count)) }
+) -> Result<Product, OutOfMemory>
+    ensures makes { IfOk result (λ product. effect_of product ≡ made (Judged.RepeatBool item count)) }
     ensures counted { CountsRun result meter.old meter.new }
 {
     let whole = one_segment(alloc, count)?;
-    distribute_b(execution, alloc, meter, &[item], &whole)
+    stored_bools(distribute_b(execution, alloc, meter, &[item], &whole))
 }
 
 /// So many numbers from the start on, each a stride above the one before.
@@ -149,33 +134,35 @@ pub(crate) fn indexed(
     start: i64,
     stride: i64,
     count: usize,
-) -> Result<Vec<i64>, OutOfMemory>
-    ensures makes { IfOk result (λ v. Stores (Ints v.items) ≡ made (Judged.Index start stride count)) }
+) -> Result<Product, OutOfMemory>
+    ensures makes { IfOk result (λ product. effect_of product ≡ made (Judged.Index start stride count)) }
     ensures counted { CountsRun result meter.old meter.new }
 {
     let whole = one_segment(alloc, count)?;
-    index(execution, alloc, meter, &[start], &[stride], &whole)
+    stored_ints(index(execution, alloc, meter, &[start], &[stride], &whole))
 }
 
 /// Each item as often as its segment is long.
+#[inline(always)]
 pub(crate) fn distributed(
     execution: &impl Execution,
     alloc: Global,
     meter: &mut Meter,
     items: Vector<'_>,
     segments: &Segd,
-) -> Result<Value, OutOfMemory>
+) -> Result<Product, OutOfMemory>
     requires { IsReady (Judged.Distribute items segments) }
-    ensures makes { IfOk result (λ v. Stores (content_of v) ≡ made (Judged.Distribute items.entry segments.entry)) }
+    ensures makes { IfOk result (λ product. effect_of product ≡ made (Judged.Distribute items.entry segments.entry)) }
     ensures counted { CountsRun result meter.old meter.new }
 {
     match items {
-        Vector::Ints(xs) => Ok(Value::Ints(distribute_z(execution, alloc, meter, xs, segments)?)),
-        Vector::Bools(xs) => Ok(Value::Bools(distribute_b(execution, alloc, meter, xs, segments)?)),
+        Vector::Ints(xs) => stored_ints(distribute_z(execution, alloc, meter, xs, segments)),
+        Vector::Bools(xs) => stored_bools(distribute_b(execution, alloc, meter, xs, segments)),
     }
 }
 
 /// Each item at the place that the index holds beside it, in its segment.
+#[inline(always)]
 fn permuted_segments(
     execution: &impl Execution,
     alloc: Global,
@@ -183,41 +170,34 @@ fn permuted_segments(
     items: Vector<'_>,
     places: &[i64],
     segments: &Segd,
-) -> Result<Value, OutOfMemory>
+) -> Result<Product, OutOfMemory>
     requires { IsReady (Judged.Permute items places (Some segments)) }
-    ensures makes { IfOk result (λ v. Stores (content_of v) ≡ made (Judged.Permute items.entry places.entry (Some segments.entry))) }
+    ensures makes { IfOk result (λ product. effect_of product ≡ made (Judged.Permute items.entry places.entry (Some segments.entry))) }
     ensures counted { CountsRun result meter.old meter.new }
 {
     match items {
-        Vector::Ints(xs) => Ok(Value::Ints(permute_z(
-            execution, alloc, meter, xs, places, segments,
-        )?)),
-        Vector::Bools(xs) => Ok(Value::Bools(permute_b(
-            execution, alloc, meter, xs, places, segments,
-        )?)),
+        Vector::Ints(xs) => stored_ints(permute_z(execution, alloc, meter, xs, places, segments)),
+        Vector::Bools(xs) => stored_bools(permute_b(execution, alloc, meter, xs, places, segments)),
     }
 }
 
 /// Each item at the place that the index holds beside it.
+#[inline(always)]
 fn permuted_whole(
     execution: &impl Execution,
     alloc: Global,
     meter: &mut Meter,
     items: Vector<'_>,
     places: &[i64],
-) -> Result<Value, OutOfMemory>
+) -> Result<Product, OutOfMemory>
     requires { IsReady (Judged.Permute items places None) }
-    ensures makes { IfOk result (λ v. Stores (content_of v) ≡ made (Judged.Permute items.entry places.entry None)) }
+    ensures makes { IfOk result (λ product. effect_of product ≡ made (Judged.Permute items.entry places.entry None)) }
     ensures counted { CountsRun result meter.old meter.new }
 {
     let whole = one_segment(alloc, places.len())?;
     match items {
-        Vector::Ints(xs) => Ok(Value::Ints(permute_z(
-            execution, alloc, meter, xs, places, &whole,
-        )?)),
-        Vector::Bools(xs) => Ok(Value::Bools(permute_b(
-            execution, alloc, meter, xs, places, &whole,
-        )?)),
+        Vector::Ints(xs) => stored_ints(permute_z(execution, alloc, meter, xs, places, &whole)),
+        Vector::Bools(xs) => stored_bools(permute_b(execution, alloc, meter, xs, places, &whole)),
     }
 }
 
@@ -229,9 +209,9 @@ pub(crate) fn permuted(
     items: Vector<'_>,
     places: &[i64],
     segments: Option<&Segd>,
-) -> Result<Value, OutOfMemory>
+) -> Result<Product, OutOfMemory>
     requires { IsReady (Judged.Permute items places segments) }
-    ensures makes { IfOk result (λ v. Stores (content_of v) ≡ made (Judged.Permute items.entry places.entry segments.entry)) }
+    ensures makes { IfOk result (λ product. effect_of product ≡ made (Judged.Permute items.entry places.entry segments.entry)) }
     ensures counted { CountsRun result meter.old meter.new }
 {
     match segments {
@@ -241,6 +221,7 @@ pub(crate) fn permuted(
 }
 
 /// For each index the item at its place, in the segment of the source that has the index's number.
+#[inline(always)]
 pub(crate) fn gathered_segments(
     execution: &impl Execution,
     alloc: Global,
@@ -249,18 +230,18 @@ pub(crate) fn gathered_segments(
     source: &Segd,
     places: &[i64],
     by: &Segd,
-) -> Result<Value, OutOfMemory>
+) -> Result<Product, OutOfMemory>
     requires { IsReady (Judged.GatherSegments items source places by) }
-    ensures makes { IfOk result (λ v. Stores (content_of v) ≡ made (Judged.GatherSegments items.entry source.entry places.entry by.entry)) }
+    ensures makes { IfOk result (λ product. effect_of product ≡ made (Judged.GatherSegments items.entry source.entry places.entry by.entry)) }
     ensures counted { CountsRun result meter.old meter.new }
 {
     match items {
-        Vector::Ints(xs) => Ok(Value::Ints(back_permute_z(
+        Vector::Ints(xs) => stored_ints(back_permute_z(
             execution, alloc, meter, xs, source, places, by,
-        )?)),
-        Vector::Bools(xs) => Ok(Value::Bools(back_permute_b(
+        )),
+        Vector::Bools(xs) => stored_bools(back_permute_b(
             execution, alloc, meter, xs, source, places, by,
-        )?)),
+        )),
     }
 }
 
@@ -271,36 +252,38 @@ pub(crate) fn gathered(
     meter: &mut Meter,
     items: Vector<'_>,
     places: &[i64],
-) -> Result<Value, OutOfMemory>
+) -> Result<Product, OutOfMemory>
     requires { IsReady (Judged.Gather items places) }
-    ensures makes { IfOk result (λ v. Stores (content_of v) ≡ made (Judged.Gather items.entry places.entry)) }
+    ensures makes { IfOk result (λ product. effect_of product ≡ made (Judged.Gather items.entry places.entry)) }
     ensures counted { CountsRun result meter.old meter.new }
 {
     match items {
-        Vector::Ints(xs) => Ok(Value::Ints(gather_z(execution, alloc, meter, xs, places)?)),
-        Vector::Bools(xs) => Ok(Value::Bools(gather_b(execution, alloc, meter, xs, places)?)),
+        Vector::Ints(xs) => stored_ints(gather_z(execution, alloc, meter, xs, places)),
+        Vector::Bools(xs) => stored_bools(gather_b(execution, alloc, meter, xs, places)),
     }
 }
 
 /// The items whose flag is set, in order.
+#[inline(always)]
 pub(crate) fn packed(
     execution: &impl Execution,
     alloc: Global,
     meter: &mut Meter,
     items: Vector<'_>,
     flags: &[bool],
-) -> Result<Value, OutOfMemory>
+) -> Result<Product, OutOfMemory>
     requires { IsReady (Judged.Pack items flags) }
-    ensures makes { IfOk result (λ v. Stores (content_of v) ≡ made (Judged.Pack items.entry flags.entry)) }
+    ensures makes { IfOk result (λ product. effect_of product ≡ made (Judged.Pack items.entry flags.entry)) }
     ensures counted { CountsRun result meter.old meter.new }
 {
     match items {
-        Vector::Ints(xs) => Ok(Value::Ints(pack_z(execution, alloc, meter, xs, flags)?)),
-        Vector::Bools(xs) => Ok(Value::Bools(pack_b(execution, alloc, meter, xs, flags)?)),
+        Vector::Ints(xs) => stored_ints(pack_z(execution, alloc, meter, xs, flags)),
+        Vector::Bools(xs) => stored_bools(pack_b(execution, alloc, meter, xs, flags)),
     }
 }
 
 /// The same where segments have all items: the packed segments, joined, are the pack of all items.
+#[inline(always)]
 pub(crate) fn packed_segments(
     execution: &impl Execution,
     alloc: Global,
@@ -308,11 +291,10 @@ pub(crate) fn packed_segments(
     items: Vector<'_>,
     flags: &[bool],
     segments: &Segd,
-) -> Result<Value, OutOfMemory>
+) -> Result<Product, OutOfMemory>
     requires { IsReady (Judged.PackSegments items flags segments) }
-    ensures makes { IfOk result (λ v. Stores (content_of v) ≡ made (Judged.PackSegments items.entry flags.entry segments.entry)) }
+    ensures makes { IfOk result (λ product. effect_of product ≡ made (Judged.PackSegments items.entry flags.entry segments.entry)) }
     ensures counted { CountsRun result meter.old meter.new }
 {
-    let kept = packed(execution, alloc, meter, items, flags)?;
-    Ok(kept)
+    packed(execution, alloc, meter, items, flags)
 }

@@ -3,8 +3,8 @@ ghost use Rattle.vector_memory.specs.Contents.{content_of};
 ghost use Rattle.vector_memory.specs.States.{FitsLimits, refusal};
 ghost use Rattle.cvl_text.specs.Answers.{answer_of};
 ghost use Rattle.cvl_text.specs.Tasks.{task_of};
-ghost use Rattle.cvl_calls.specs.Outcomes.{Counts, GivesBy, IsAnswered, IsFittingEffect, effect_of, operands_of};
-ghost use Rattle.cvl_calls.specs.Steps.{Grows, MayLackMemory, applied, stepped, stored};
+ghost use Rattle.cvl_calls.specs.Outcomes.{Counts, GivesBy, IsDecided, IsFittingEffect, effect_of, operands_of};
+ghost use Rattle.cvl_calls.specs.Steps.{CountsStep, Grows, MayLackMemory, applied, runs_on, stepped, stored};
 ghost use Rattle.cvl_calls.specs.Work.{work};
 ghost use Rattle.cvl_calls.specs.Runs.{TakesNoMemory, runs_kernel, tests_index};
 
@@ -29,7 +29,7 @@ pub fn work(
 ) -> Result<Product, Stop>
     ensures gives { let task = task_of call.now in
         GivesBy (tests_index task.word) effect_of result (work memory.now.limit task.word (operands_of memory.now task.arguments)) }
-    ensures answered { TakesNoMemory (task_of call.now).word → IsAnswered result }
+    ensures answered { TakesNoMemory (task_of call.now).word → IsDecided result }
     ensures counted { Counts (runs_kernel (task_of call.now).word) result meter.old meter.new }
     ensures fits { IfOk result (λ product. IsFittingEffect memory.now.limit (effect_of product)) }
 {
@@ -77,7 +77,30 @@ pub fn apply(memory: &mut Memory, to: Option<Name>, product: Product) -> Result<
 }
 
 /// Runs a call on a memory: `work`, and then `apply`. A fault is a reply, and it and a want of memory leave the memory as it was.
-/// `fre_fov`, `len_fov` and `ext_vuz` take no memory, and are always answered.
+/// `fre_fov`, `len_fov` and `ext_vuz` take no memory, and are always answered. The meter rises by one where a kernel ran: with a
+/// reply, where the call runs one and no fault of 1 to 8 was found.
+pub fn step_metered(
+    execution: &impl Execution,
+    alloc: Global,
+    meter: &mut Meter,
+    memory: &mut Memory,
+    call: &Call,
+) -> Result<Reply, OutOfMemory>
+    ensures ok { IfOk result (λ reply. stepped memory.old (task_of call.now)
+        ≡ record { memory = memory.new; answer = answer_of reply }) }
+    ensures lacks { OnErr result (MayLackMemory memory.old (task_of call.now)) }
+    ensures answered { TakesNoMemory (task_of call.now).word → IsOk result }
+    ensures err { OnErr result (memory.new ≡ memory.old) }
+    ensures counted { CountsStep (runs_on memory.old (task_of call.now)) result meter.old meter.new }
+{
+    match work(execution, alloc, meter, memory, call) {
+        Ok(product) => apply(memory, target(call), product),
+        Err(Stop::Fault(fault)) => Ok(Reply::Fault(fault)),
+        Err(Stop::OutOfMemory) => Err(OutOfMemory),
+    }
+}
+
+/// Runs a call on a memory, as `step_metered` does, and counts nothing.
 pub fn step(
     execution: &impl Execution,
     alloc: Global,
@@ -90,9 +113,5 @@ pub fn step(
     ensures answered { TakesNoMemory (task_of call.now).word → IsOk result }
     ensures err { OnErr result (memory.new ≡ memory.old) }
 {
-    match work(execution, alloc, &mut Meter::new(), memory, call) {
-        Ok(product) => apply(memory, target(call), product),
-        Err(Stop::Fault(fault)) => Ok(Reply::Fault(fault)),
-        Err(Stop::OutOfMemory) => Err(OutOfMemory),
-    }
+    step_metered(execution, alloc, &mut Meter::new(), memory, call)
 }

@@ -38,13 +38,13 @@ abbrev pub task_text : Task → List ℕ
 task_text t = spaced (task_words t)
 
 -- a text that is a name
-abbrev pub IsLawful : Name → Type 0
-IsLawful n = name_of n ≡ Some n
+abbrev pub IsGoodName : Name → Type 0
+IsGoodName n = name_of n ≡ Some n
 
 -- arguments of the kinds that a word takes, each one that can be written
 abbrev pub AreWritable : List ArgumentKind → List Argument → Type 0
 AreWritable [] [] = Unit {0}
-AreWritable (NameKind ∷ kinds) (Vector n ∷ others) = IsLawful n × AreWritable kinds others
+AreWritable (NameKind ∷ kinds) (Vector n ∷ others) = IsGoodName n × AreWritable kinds others
 AreWritable (NumberKind ∷ kinds) (Number x ∷ others) = IsTrue (is_in_range x) × AreWritable kinds others
 AreWritable (TruthKind ∷ kinds) (Truth b ∷ others) = AreWritable kinds others
 AreWritable (NumbersKind ∷ kinds) (Numbers xs ∷ []) = AllByRecursion (λ x. IsTrue (is_in_range x)) xs
@@ -53,7 +53,7 @@ AreWritable _ _ = ⊥
 
 -- a target exactly where the word has one
 abbrev pub IsWritableTarget : Bool → Option Name → Type 0
-IsWritableTarget true (Some n) = IsLawful n
+IsWritableTarget true (Some n) = IsGoodName n
 IsWritableTarget false None = Unit {0}
 IsWritableTarget _ _ = ⊥
 

@@ -45,5 +45,5 @@ answer_text (VectorOf v) = value_text v
 answer_text (FaultOf f) = fault_text f
 
 -- new is old, with something behind it
-abbrev pub Begins : List ℕ → List ℕ → Type 0
-Begins old new = (more : List ℕ) × (new ≡ old ++ more)
+abbrev pub IsContinued : List ℕ → List ℕ → Type 0
+IsContinued old new = (more : List ℕ) × (new ≡ old ++ more)

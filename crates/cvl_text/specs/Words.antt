@@ -2,20 +2,20 @@
 use Rattle.std.specs.Prelude.{ℕ, suc, Bool, true, false, ◌==◌, nat_eq, List, [], ◌∷◌, ◌++◌, map, filter, if◌then◌else◌, codes, Option, find}
 use Rattle.std.specs.Map.{lookup}
 use Rattle.std.specs.Cmp.Lexicographic.{pointwise}
-use Rattle.scan_kernels.specs.declared.operation.Z2.{Z2}
-use Rattle.scan_kernels.specs.declared.operation.Z2.TheVariants as z2
-use Rattle.scan_kernels.specs.declared.operation.Z1.{Z1}
-use Rattle.scan_kernels.specs.declared.operation.Z1.TheVariants as z1
-use Rattle.scan_kernels.specs.declared.operation.Cmp.{Cmp}
-use Rattle.scan_kernels.specs.declared.operation.Cmp.TheVariants as cmps
-use Rattle.scan_kernels.specs.declared.operation.B2.{B2}
-use Rattle.scan_kernels.specs.declared.operation.B2.TheVariants as b2
-use Rattle.scan_kernels.specs.declared.operation.B1.{B1}
-use Rattle.scan_kernels.specs.declared.operation.B1.TheVariants as b1
-use Rattle.scan_kernels.specs.declared.combine.ScanZ.{ScanZ as Scans}
-use Rattle.scan_kernels.specs.declared.combine.ScanZ.TheVariants as scans
-use Rattle.scan_kernels.specs.declared.combine.ScanB.{ScanB as ScansB}
-use Rattle.scan_kernels.specs.declared.combine.ScanB.TheVariants as scans_b
+use Rattle.item_operations.specs.declared.operation.Z2.{Z2}
+use Rattle.item_operations.specs.declared.operation.Z2.TheVariants as z2
+use Rattle.item_operations.specs.declared.operation.Z1.{Z1}
+use Rattle.item_operations.specs.declared.operation.Z1.TheVariants as z1
+use Rattle.item_operations.specs.declared.operation.Cmp.{Cmp}
+use Rattle.item_operations.specs.declared.operation.Cmp.TheVariants as cmps
+use Rattle.item_operations.specs.declared.operation.B2.{B2}
+use Rattle.item_operations.specs.declared.operation.B2.TheVariants as b2
+use Rattle.item_operations.specs.declared.operation.B1.{B1}
+use Rattle.item_operations.specs.declared.operation.B1.TheVariants as b1
+use Rattle.item_operations.specs.declared.combine.ScanZ.{ScanZ as Scans}
+use Rattle.item_operations.specs.declared.combine.ScanZ.TheVariants as scans
+use Rattle.item_operations.specs.declared.combine.ScanB.{ScanB as ScansB}
+use Rattle.item_operations.specs.declared.combine.ScanB.TheVariants as scans_b
 use Rattle.cvl_text.specs.declared.word.Kind.{Kind}
 use Rattle.cvl_text.specs.declared.word.Kind.TheVariants as kinds
 use Rattle.cvl_text.specs.declared.word.AskWord.{AskWord}

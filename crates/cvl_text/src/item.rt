@@ -2,7 +2,7 @@
 
 ghost use Rattle.std.specs.Prelude.{◌≡◌, ℕ, ◌++◌, ◌+◌, ◌<◌, ◌≤◌, List, Option, vec_len, vec_capacity, length, OnOk, OnErr};
 ghost use Rattle.cvl_text.specs.Numbers.{number_of};
-ghost use Rattle.cvl_text.specs.Texts.{length_item, number_item, truth_item, Begins};
+ghost use Rattle.cvl_text.specs.Texts.{length_item, number_item, truth_item, IsContinued};
 ghost use Rattle.cvl_text.specs.TruthValues.{truth_of};
 
 use crate::number::{append_count, append_number, number_of};
@@ -39,7 +39,7 @@ pub(crate) trait WriteItem: Copy {
     /// Appends a space and the item. On an error a part may be written.
     fn append(self, out: &mut Vec<u8>) -> Result<(), AllocError>
         ensures ok { OnOk result (out.new.items ≡ out.old.items ++ item_text self) }
-        ensures err { OnErr result (Begins out.old.items out.new.items) }
+        ensures err { OnErr result (IsContinued out.old.items out.new.items) }
         ensures len { OnOk result (vec_len out.new ≡ vec_len out.old + length (item_text self)) }
         ensures capacity { vec_capacity out.old ≤ vec_capacity out.new }
         ensures full { OnErr result (vec_capacity out.old < vec_len out.old + length (item_text self)) };

@@ -13,6 +13,7 @@ mod item;
 mod items;
 pub mod laws;
 mod named;
+mod names;
 mod number;
 mod parts;
 mod reading;
@@ -27,7 +28,8 @@ mod writing;
 
 pub use call::Call;
 pub use fault::{Fault, ReadFault};
-pub use parts::{call_word, reads, target};
+pub use names::NamesRead;
+pub use parts::{call_word, names_read, reads, target};
 pub use reply::Reply;
 pub use text::next_word;
 pub use word::{

@@ -2,8 +2,10 @@
 
 ghost use Rattle.std.specs.Prelude.{◌≡◌};
 ghost use Rattle.cvl_text.specs.Tasks.{task_of, reads, target, four_of};
+ghost use Rattle.cvl_text.specs.Names.{listed};
 
 use crate::call::Call;
+use crate::names::NamesRead;
 use crate::word::{AskWord, OneWord, ThreeWord, TwoWord, Word};
 use vector_memory::Name;
 
@@ -105,45 +107,73 @@ pub fn target(call: &Call) -> Option<Name>
     }
 }
 
+/// The names that a call reads, lent from it, from left to right. A name that is read twice stands twice.
+#[inline]
+pub fn names_read(call: &Call) -> NamesRead<'_>
+    ensures { listed result ≡ reads (task_of call.now) }
+{
+    match call {
+        Call::SetInts { .. } => NamesRead::Zero,
+        Call::SetBools { .. } => NamesRead::Zero,
+        Call::Get { a } => NamesRead::One(a),
+        Call::Mov { a, .. } => NamesRead::One(a),
+        Call::Free { a } => NamesRead::One(a),
+        Call::Alo { .. } => NamesRead::Zero,
+        Call::Len { a } => NamesRead::One(a),
+        Call::MakeSegs { a, .. } => NamesRead::One(a),
+        Call::LenSegs { s, .. } => NamesRead::One(s),
+        Call::MapZ2 { a, b, .. } => NamesRead::Two(a, b),
+        Call::MapZ1 { a, .. } => NamesRead::One(a),
+        Call::CmpZ { a, b, .. } => NamesRead::Two(a, b),
+        Call::MapB2 { a, b, .. } => NamesRead::Two(a, b),
+        Call::MapB1 { a, .. } => NamesRead::One(a),
+        Call::Sel { f, a, b, .. } => NamesRead::Three(f, a, b),
+        Call::Boo { a, .. } => NamesRead::One(a),
+        Call::IntOf { a, .. } => NamesRead::One(a),
+        Call::ScanOfZ { a, s: None, .. } => NamesRead::One(a),
+        Call::ScanOfZ { a, s: Some(s), .. } => NamesRead::Two(a, s),
+        Call::ScanOfB { a, s: None, .. } => NamesRead::One(a),
+        Call::ScanOfB { a, s: Some(s), .. } => NamesRead::Two(a, s),
+        Call::RedZ { a, .. } => NamesRead::One(a),
+        Call::RedB { a, .. } => NamesRead::One(a),
+        Call::RedSegZ { a, s, .. } => NamesRead::Two(a, s),
+        Call::RedSegB { a, s, .. } => NamesRead::Two(a, s),
+        Call::DisZ { .. } => NamesRead::Zero,
+        Call::DisB { .. } => NamesRead::Zero,
+        Call::DisSeg { a, s, .. } => NamesRead::Two(a, s),
+        Call::Ind { .. } => NamesRead::Zero,
+        Call::IndSeg { a, b, s, .. } => NamesRead::Three(a, b, s),
+        Call::Smp { a, i, s: None, .. } => NamesRead::Two(a, i),
+        Call::Smp {
+            a,
+            i,
+            s: Some(s),
+            ..
+        } => NamesRead::Three(a, i, s),
+        Call::Bck { a, i, .. } => NamesRead::Two(a, i),
+        Call::BckSeg { a, s, i, t, .. } => NamesRead::Four(a, s, i, t),
+        Call::Pck { a, f, s: None, .. } => NamesRead::Two(a, f),
+        Call::Pck {
+            a,
+            f,
+            s: Some(s),
+            ..
+        } => NamesRead::Three(a, f, s),
+        Call::Pkl { f, s, .. } => NamesRead::Two(f, s),
+        Call::Ext { a, .. } => NamesRead::One(a),
+        Call::Rep { a, .. } => NamesRead::One(a),
+    }
+}
+
 /// The names that a call reads, from left to right, and None after them. A name that is read twice stands twice.
 pub fn reads(call: &Call) -> [Option<Name>; 4]
     ensures { result ≡ four_of (reads (task_of call.now)) }
 {
-    match call {
-        Call::SetInts { .. } => [None, None, None, None],
-        Call::SetBools { .. } => [None, None, None, None],
-        Call::Get { a } => [Some(*a), None, None, None],
-        Call::Mov { a, .. } => [Some(*a), None, None, None],
-        Call::Free { a } => [Some(*a), None, None, None],
-        Call::Alo { .. } => [None, None, None, None],
-        Call::Len { a } => [Some(*a), None, None, None],
-        Call::MakeSegs { a, .. } => [Some(*a), None, None, None],
-        Call::LenSegs { s, .. } => [Some(*s), None, None, None],
-        Call::MapZ2 { a, b, .. } => [Some(*a), Some(*b), None, None],
-        Call::MapZ1 { a, .. } => [Some(*a), None, None, None],
-        Call::CmpZ { a, b, .. } => [Some(*a), Some(*b), None, None],
-        Call::MapB2 { a, b, .. } => [Some(*a), Some(*b), None, None],
-        Call::MapB1 { a, .. } => [Some(*a), None, None, None],
-        Call::Sel { f, a, b, .. } => [Some(*f), Some(*a), Some(*b), None],
-        Call::Boo { a, .. } => [Some(*a), None, None, None],
-        Call::IntOf { a, .. } => [Some(*a), None, None, None],
-        Call::ScanOfZ { a, s, .. } => [Some(*a), *s, None, None],
-        Call::ScanOfB { a, s, .. } => [Some(*a), *s, None, None],
-        Call::RedZ { a, .. } => [Some(*a), None, None, None],
-        Call::RedB { a, .. } => [Some(*a), None, None, None],
-        Call::RedSegZ { a, s, .. } => [Some(*a), Some(*s), None, None],
-        Call::RedSegB { a, s, .. } => [Some(*a), Some(*s), None, None],
-        Call::DisZ { .. } => [None, None, None, None],
-        Call::DisB { .. } => [None, None, None, None],
-        Call::DisSeg { a, s, .. } => [Some(*a), Some(*s), None, None],
-        Call::Ind { .. } => [None, None, None, None],
-        Call::IndSeg { a, b, s, .. } => [Some(*a), Some(*b), Some(*s), None],
-        Call::Smp { a, i, s, .. } => [Some(*a), Some(*i), *s, None],
-        Call::Bck { a, i, .. } => [Some(*a), Some(*i), None, None],
-        Call::BckSeg { a, s, i, t, .. } => [Some(*a), Some(*s), Some(*i), Some(*t)],
-        Call::Pck { a, f, s, .. } => [Some(*a), Some(*f), *s, None],
-        Call::Pkl { f, s, .. } => [Some(*f), Some(*s), None, None],
-        Call::Ext { a, .. } => [Some(*a), None, None, None],
-        Call::Rep { a, .. } => [Some(*a), None, None, None],
+    match names_read(call) {
+        NamesRead::Zero => [None, None, None, None],
+        NamesRead::One(a) => [Some(*a), None, None, None],
+        NamesRead::Two(a, b) => [Some(*a), Some(*b), None, None],
+        NamesRead::Three(a, b, c) => [Some(*a), Some(*b), Some(*c), None],
+        NamesRead::Four(a, b, c, d) => [Some(*a), Some(*b), Some(*c), Some(*d)],
     }
 }

@@ -1,6 +1,6 @@
 //! Call words, by what stands behind them.
 
-pub use scan_kernels::{B1, B2, Cmp, ScanB, ScanZ, Z1, Z2};
+pub use item_operations::{B1, B2, Cmp, ScanB, ScanZ, Z1, Z2};
 
 /// A type of items: integers, or truth values.
 #[derive(Clone, Copy, Debug, PartialEq, Eq)]

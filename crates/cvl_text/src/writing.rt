@@ -4,7 +4,7 @@ ghost use Rattle.std.specs.Prelude.{◌≡◌, ◌++◌, ◌+◌, ◌<◌, vec_l
 ghost use Rattle.std.specs.List.{flat_map};
 ghost use Rattle.vector_memory.specs.Contents.{content_of};
 ghost use Rattle.cvl_text.specs.Answers.{BoolOf, IntOf, answer_of};
-ghost use Rattle.cvl_text.specs.Texts.{value_text, fault_text, answer_text, Begins};
+ghost use Rattle.cvl_text.specs.Texts.{value_text, fault_text, answer_text, IsContinued};
 
 use crate::fault::Fault;
 use crate::item::WriteItem;
@@ -15,7 +15,7 @@ use vector_memory::{OutOfMemory, Value};
 
 fn append_items<I: WriteItem>(out: &mut Vec<u8>, items: &[I]) -> Result<(), AllocError>
     ensures ok { OnOk result (out.new.items ≡ out.old.items ++ flat_map I.item_text items.now) }
-    ensures err { OnErr result (Begins out.old.items out.new.items) }
+    ensures err { OnErr result (IsContinued out.old.items out.new.items) }
     ensures full { OnErr result (vec_capacity out.old < vec_len out.old + length (flat_map I.item_text items.now)) }
 {
     for item in items {
@@ -26,7 +26,7 @@ fn append_items<I: WriteItem>(out: &mut Vec<u8>, items: &[I]) -> Result<(), Allo
 
 fn append_value(out: &mut Vec<u8>, value: &Value) -> Result<(), AllocError>
     ensures ok { OnOk result (out.new.items ≡ out.old.items ++ value_text (content_of value.now)) }
-    ensures err { OnErr result (Begins out.old.items out.new.items) }
+    ensures err { OnErr result (IsContinued out.old.items out.new.items) }
     ensures full { OnErr result (vec_capacity out.old < vec_len out.old + length (value_text (content_of value.now))) }
 {
     match value {
@@ -79,7 +79,7 @@ pub fn write_value(value: &Value, out: &mut Vec<u8>) -> Result<(), OutOfMemory>
 
 fn append_int(out: &mut Vec<u8>, number: i64) -> Result<(), AllocError>
     ensures ok { OnOk result (out.new.items ≡ out.old.items ++ answer_text (IntOf number)) }
-    ensures err { OnErr result (Begins out.old.items out.new.items) }
+    ensures err { OnErr result (IsContinued out.old.items out.new.items) }
     ensures full { OnErr result (vec_capacity out.old < vec_len out.old + length (answer_text (IntOf number))) }
 {
     out.extend_from_slice(b"int ")?;
@@ -88,7 +88,7 @@ fn append_int(out: &mut Vec<u8>, number: i64) -> Result<(), AllocError>
 
 fn append_bool(out: &mut Vec<u8>, truth: bool) -> Result<(), AllocError>
     ensures ok { OnOk result (out.new.items ≡ out.old.items ++ answer_text (BoolOf truth)) }
-    ensures err { OnErr result (Begins out.old.items out.new.items) }
+    ensures err { OnErr result (IsContinued out.old.items out.new.items) }
     ensures full { OnErr result (vec_capacity out.old < vec_len out.old + length (answer_text (BoolOf truth))) }
 {
     out.extend_from_slice(if truth { b"bool T" } else { b"bool F" })
@@ -96,7 +96,7 @@ fn append_bool(out: &mut Vec<u8>, truth: bool) -> Result<(), AllocError>
 
 fn append_reply(out: &mut Vec<u8>, reply: &Reply) -> Result<(), AllocError>
     ensures ok { OnOk result (out.new.items ≡ out.old.items ++ answer_text (answer_of reply.now)) }
-    ensures err { OnErr result (Begins out.old.items out.new.items) }
+    ensures err { OnErr result (IsContinued out.old.items out.new.items) }
     ensures full { OnErr result (vec_capacity out.old < vec_len out.old + length (answer_text (answer_of reply.now))) }
 {
     match reply {

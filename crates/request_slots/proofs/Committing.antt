@@ -91,14 +91,14 @@ module _ (room : ℕ) (s : State Slot View) (r : Lawful room s) (id : ℕ) (c : 
       let before_is = pass.before_is open_yet in
       let fitting = subst (λ l. Fits room l p.taken line' outcomes) pass.line_is fits in
       let wide = r.wide in
-      let seats = seats_after (Knows room r.n r.made r.line r.lock r.station) (Knows room r.n r.made line' (held_by c.number p') r.station) s.views id (Caller (committing c p line' outcomes))
-      (own_knows room s r id c there p has line' p' r.station (c.passes ++ length p.taken ∷ []) fitting.grows abide (λ t e. knows.settled.tried p has t e))
+      let seats = seats_after (Knows room r.n r.made r.line r.lock r.station) (Knows room r.n r.made line' (held_by c.standing.number p') r.station) s.views id (Caller (committing c p line' outcomes))
+      (own_knows room s r id c there p has line' p' r.station (c.standing.passes ++ length p.taken ∷ []) fitting.grows abide (λ t e. knows.settled.tried p has t e))
       (others_stay room s r id c there p has line' p' r.station fitting.grows abide) r.each_seat in
       record {
         n = r.n;
         made = r.made;
         line = line';
-        lock = held_by c.number p';
+        lock = held_by c.standing.number p';
         station = r.station;
         wide = length-set s.words 1 (length line') ∙ r.wide;
         deep = r.deep;
@@ -120,18 +120,18 @@ module _ (room : ℕ) (s : State Slot View) (r : Lawful room s) (id : ℕ) (c : 
           };
         };
         holder_sits = holder_begins s.views r.station id (Caller c) (committing c p line' outcomes) p' there knows.seat_is refl;
-        sit_apart = seats_apart room r.n r.made line' (held_by c.number p') r.station (set s.views id (Caller (committing c p line' outcomes))) seats;
+        sit_apart = seats_apart room r.n r.made line' (held_by c.standing.number p') r.station (set s.views id (Caller (committing c p line' outcomes))) seats;
         made_sit = made_sit_after s.views r.station r.station r.made id (Caller c) (Caller (committing c p line' outcomes)) there refl (λ _. refl) r.made_sit;
-        each_caller = λ k lt. subst (λ (z : ℕ). CallerHolds room line' (part_of (held_by c.number p') k) z (get_elem? s.homes (k + 1)) k (r.station k))
+        each_caller = λ k lt. subst (λ (z : ℕ). CallerHolds room line' (part_of (held_by c.standing.number p') k) z (get_elem? s.homes (k + 1)) k (r.station k))
             (sym (get_or-set_other s.words 1 (k + 2) (length line') 0 (λ e. omega arith)))
-            (caller_commits room r.line line' (part_of (held_by c.number p) k) (outcome_by k p.taken outcomes) (get_or s.words (k + 2) 0) (get_elem? s.homes (k + 1)) k (r.station k)
+            (caller_commits room r.line line' (part_of (held_by c.standing.number p) k) (outcome_by k p.taken outcomes) (get_or s.words (k + 2) 0) (get_elem? s.homes (k + 1)) k (r.station k)
             open_yet before_is fitting.grows (fitting.each k) (rule.each_caller k lt));
         each_seat = seats;
       }
 
 pub commits_line : (room slots id : ℕ) (me : Sat) (line : List Entry) (outcomes : List Outcome) → me.0 ≡ Caller (known_of me.0) → (known_of me.0).pass ≡ Some (pass_in (known_of me.0))
     → (pass_in (known_of me.0)).committed ≡ false → ((i : ℕ) → i + 1 < slots → is_in (pass_in (known_of me.0)).tried i ≡ true)
-    → Fits (known_of me.0).room (pass_in (known_of me.0)).line (pass_in (known_of me.0)).taken line outcomes
+    → Fits (known_of me.0).standing.room (pass_in (known_of me.0)).line (pass_in (known_of me.0)).taken line outcomes
     → Allows (Lawful room) slots id me 1 (λ _. length line) (λ _. Commits line outcomes (step slots 1 (length line) 0 none) me (length line))
 commits_line room slots id me line outcomes is has open_yet all fits s r deep at small =
     let c : Known = known_of me.0 in

@@ -1,20 +1,22 @@
 -- The slots in the hand of a seat, as steps take, turn and give them.
--- `hand_takes`, `hand_turned`, `hand_strikes` and `hand_collects` say what the hand is after a step.
-use Rattle.std.proofs.Common.{◌≡◌, ℕ, zero, suc, length, append-nil, append_assoc, ◌+◌, List, [], ◌∷◌, ◌++◌, Option, Some, None, refl, sym, ap, ◌∙◌, subst, arith}
+-- `hand_opens` brings the slot of a caller to the front, `hand_closes` and `hand_takes` bring the hand into order again, without that
+-- slot or with it; `hand_own` and `hand_collects` are the hand of a caller that asks.
+use Rattle.std.proofs.Common.{◌≡◌, ℕ, zero, suc, length, take, drop, set, get_or, append-nil, append_assoc, add-zero, add-one, ◌+◌, ◌<◌, Bool, true, false, List, [], ◌∷◌, ◌++◌, cond, Option, None, refl, sym, ap, ◌∙◌, subst, arith, length-append, length-take}
+use Rattle.std.specs.Prelude.{is_some}
+use Rattle.std.specs.List.{count_by}
+use Rattle.std.proofs.lemmas.List.{set_split, set-get_or}
+use Rattle.std.proofs.lemmas.List.Sums.{sum_by-cons}
 use Rattle.atomic_table.specs.Table.{rest, turned}
-use Rattle.cvl_text.specs.declared.call.Call.{Call}
-use Rattle.call_history.specs.declared.request.Request.{Request}
-use Rattle.call_history.specs.Fits.{request}
+use Rattle.call_history.specs.Fits.{request_by}
 use Rattle.request_slots.specs.declared.desk.Slot.{Slot}
 use Rattle.request_slots.specs.declared.desk.Slot.TheVariants.{Nothing}
 use Rattle.request_slots.specs.declared.known.Pass.{Pass}
 use Rattle.request_slots.specs.declared.known.Known.{Known}
 use Rattle.request_slots.specs.declared.known.Phase.{Phase}
 use Rattle.request_slots.specs.declared.known.Phase.TheVariants.{Idle}
-use Rattle.request_slots.specs.Passes.{takes_on, tries, strikes}
-use Rattle.request_slots.specs.Views.{pass_in, passing, HasDesk, IsLeft}
-use Rattle.request_slots.specs.Seating.{turned_times, Hand, own_hand, stacked, pass_hand, hand_of, IsOrderly}
-use Rattle.request_slots.proofs.RequestLists.{strikes_middle}
+use Rattle.request_slots.specs.Standing.{Standing, IsLeft}
+use Rattle.request_slots.specs.Views.{with_standing, pass_or, pass_in, passing, HasDesk}
+use Rattle.request_slots.specs.Seating.{turned_times, Hand, own_hand, marked_slots, desk_hand, hand_of, IsMarked}
 
 -- a hand with this slot in front
 pub front_is : (hand more : Hand) (x : ℕ × Slot) → hand ≡ x ∷ more → hand ≡ x ∷ rest hand
@@ -24,39 +26,68 @@ abbrev pub front_slot : Hand → Slot
 front_slot [] = Nothing
 front_slot (x ∷ hand) = x.1
 
-stacked-push : (rs : List Request) (i : ℕ) (call : Call) (hand : Hand) → stacked (rs ++ request i call ∷ []) hand ≡ (i + 1, Nothing) ∷ stacked rs hand
-stacked-push [] i call hand = refl
-stacked-push (r ∷ rs) i call hand = stacked-push rs i call ((r.caller + 1, Nothing) ∷ hand)
+-- the slots of more callers come behind those of fewer
+marked-append : (k : ℕ) (xs ys : List Bool) → marked_slots k (xs ++ ys) ≡ marked_slots k xs ++ marked_slots (k + length xs) ys
+marked-append k [] ys = ap (λ (n : ℕ). marked_slots n ys) (sym (add-zero k))
+marked-append k (true ∷ xs) ys = ap (λ (h : Hand). let t : Hand = (k + 1, Nothing) ∷ h in t) (marked-append (k + 1) xs ys ∙ ap (λ (n : ℕ). marked_slots (k + 1) xs ++ marked_slots n ys) (omega arith))
+marked-append k (false ∷ xs) ys = marked-append (k + 1) xs ys ∙ ap (λ (n : ℕ). marked_slots (k + 1) xs ++ marked_slots n ys) (omega arith)
 
-stacked-append : (rs : List Request) (hand more : Hand) → stacked rs (hand ++ more) ≡ stacked rs hand ++ more
-stacked-append [] hand more = refl
-stacked-append (r ∷ rs) hand more = stacked-append rs ((r.caller + 1, Nothing) ∷ hand) more
+length-marked : (k : ℕ) (marks : List Bool) → length (marked_slots k marks) ≡ count_by (λ mark. mark) marks
+length-marked k [] = refl
+length-marked k (true ∷ marks) =
+    let one : count_by (λ mark. mark) (true ∷ marks) ≡ 1 + count_by (λ mark. mark) marks = sum_by-cons (λ (mark : Bool). cond mark 1 0) true marks in
+    omega (arith, length-marked (k + 1) marks)
+length-marked k (false ∷ marks) =
+    let none : count_by (λ mark. mark) (false ∷ marks) ≡ 0 + count_by (λ mark. mark) marks = sum_by-cons (λ (mark : Bool). cond mark 1 0) false marks in
+    omega (arith, length-marked (k + 1) marks)
 
-stacked-after : (earlier later : List Request) (hand : Hand) → stacked (earlier ++ later) hand ≡ stacked later (stacked earlier hand)
-stacked-after [] later hand = refl
-stacked-after (r ∷ rs) later hand = stacked-after rs later ((r.caller + 1, Nothing) ∷ hand)
+-- where nobody is marked there are no slots
+none-marked : (k : ℕ) (marks : List Bool) → ((i : ℕ) → i < length marks → get_or marks i false ≡ false) → marked_slots k marks ≡ []
+none-marked k [] none = refl
+none-marked k (true ∷ marks) none = absurd (cc (none 0 (omega arith)))
+none-marked k (false ∷ marks) none = none-marked (k + 1) marks (λ i lt. none (suc i) (omega arith))
 
-length-stacked : (rs : List Request) (hand : Hand) → length (stacked rs hand) ≡ length rs + length hand
-length-stacked [] hand = omega arith
-length-stacked (r ∷ rs) hand = length-stacked rs ((r.caller + 1, Nothing) ∷ hand) ∙ omega arith
+-- a caller without the desk has its own slot alone
+pub hand_own : (marks : List Bool) (c : Known) → c.pass ≡ None → IsMarked marks (pass_in c).taken → hand_of marks c ≡ own_hand c.standing.number c.standing.phase
+hand_own marks c no_pass marked =
+    let long = marked.long in
+    let none : marked_slots 0 marks ≡ [] =
+    none-marked 0 marks (λ i lt. marked.each i (omega arith) ∙ ap (λ (o : Option Pass). is_some (request_by i (pass_or o).taken)) no_pass) in
+    (λ j. desk_hand (no_pass j) ++ (none j ++ own_hand c.standing.number c.standing.phase))
 
--- the slots of the pass come before the caller's own
-pass_hand-own : (pass : Option Pass) (more : Hand) → pass_hand pass more ≡ pass_hand pass [] ++ more
-pass_hand-own None more = refl
-pass_hand-own (Some p) more = stacked-append p.taken ((0, Nothing) ∷ []) more
+-- the hand stays while a pass goes on
+pub hand_stays : (marks : List Bool) (c : Known) (p : Pass) → HasDesk c → hand_of marks c ≡ hand_of marks (passing c p)
+hand_stays marks c p has = ap (λ (o : Option Pass). desk_hand o ++ (marked_slots 0 marks ++ own_hand c.standing.number c.standing.phase)) has
 
--- the hand of the caller that has the desk
-abbrev desk_hand : Known → List Request → Hand
-desk_hand c taken = stacked taken ((0, Nothing) ∷ own_hand c.number c.phase)
+-- the slots of the hand that lie before that of caller i, and those behind it
+abbrev pub front_hand : List Bool → ℕ → Hand
+front_hand marks i = (0, Nothing) ∷ marked_slots 0 (take i marks)
 
-hand_with_desk : (c : Known) → HasDesk c → hand_of c ≡ stacked (pass_in c).taken ((0, Nothing) ∷ own_hand c.number c.phase)
-hand_with_desk c has = ap (λ (o : Option Pass). pass_hand o (own_hand c.number c.phase)) has
+abbrev pub back_hand : List Bool → ℕ → Known → Hand
+back_hand marks i c = marked_slots (i + 1) (drop (i + 1) marks) ++ own_hand c.standing.number c.standing.phase
 
-pub hand_tries : (c : Known) (i : ℕ) → HasDesk c → hand_of c ≡ hand_of (passing c (tries (pass_in c) i))
-hand_tries c i has = hand_with_desk c has
+-- the slot of caller i, if it is marked
+abbrev pub slot_if : Bool → ℕ → Hand
+slot_if true i = (i + 1, Nothing) ∷ []
+slot_if false i = []
 
-pub hand_takes : (c : Known) (i : ℕ) (call : Call) → HasDesk c → (i + 1, Nothing) ∷ hand_of c ≡ hand_of (passing c (takes_on (pass_in c) i call))
-hand_takes c i call has = ap (λ (h : Hand). let t : Hand = (i + 1, Nothing) ∷ h in t) (hand_with_desk c has) ∙ sym (stacked-push (pass_in c).taken i call ((0, Nothing) ∷ own_hand c.number c.phase))
+marked-cons : (b : Bool) (i : ℕ) (marks : List Bool) → marked_slots i (b ∷ marks) ≡ slot_if b i ++ marked_slots (i + 1) marks
+marked-cons true i marks = refl
+marked-cons false i marks = refl
+
+-- the hand, where caller i is marked so
+hand-set : (marks : List Bool) (i : ℕ) (b : Bool) (c : Known) → HasDesk c → i < length marks → hand_of (set marks i b) c ≡ front_hand marks i ++ (slot_if b i ++ back_hand marks i c)
+hand-set marks i b c has inside =
+    let own : Hand = own_hand c.standing.number c.standing.phase in
+    let lower : Hand = marked_slots 0 (take i marks) in
+    let upper : Hand = marked_slots (i + 1) (drop (i + 1) marks) in
+    let after : List Bool = drop (suc i) marks in
+    let at : 0 + length (take i marks) ≡ i = omega (arith, length-take i marks) in
+    let split : marked_slots 0 (set marks i b) ≡ lower ++ (slot_if b i ++ upper) =
+    ap (marked_slots 0) (set_split marks i b inside) ∙ (marked-append 0 (take i marks) (b ∷ after) ∙ (ap (λ (n : ℕ). lower ++ marked_slots n (b ∷ after)) at
+    ∙ (ap (λ h. lower ++ h) (marked-cons b i after) ∙ ap (λ (n : ℕ). lower ++ (slot_if b i ++ marked_slots (i + 1) (drop n marks))) (sym (add-one i))))) in
+    (λ j. desk_hand (has j) ++ (split j ++ own))
+    ∙ ap (λ (h : Hand). let t : Hand = (0, Nothing) ∷ h in t) (append_assoc lower (slot_if b i ++ upper) own ∙ ap (λ h. lower ++ h) (append_assoc (slot_if b i) upper own))
 
 turned-inside : (n : ℕ) (hand : Hand) → turned_times n (turned hand) ≡ turned (turned_times n hand)
 turned-inside zero hand = refl
@@ -70,46 +101,48 @@ turned-front (suc n) [] back e = absurd (omega arith)
 turned-front (suc n) (x ∷ front) back e = sym (turned-inside n (x ∷ front ++ back)) ∙ (ap (turned_times n) (append_assoc front back (x ∷ []))
     ∙ (turned-front n front (back ++ x ∷ []) (omega arith) ∙ append_assoc back (x ∷ []) front))
 
-turned-twice : (m n : ℕ) (hand : Hand) → turned_times m (turned_times n hand) ≡ turned_times (m + n) hand
-turned-twice zero n hand = ap (λ (k : ℕ). turned_times k hand) same
-  where
-    same : n ≡ 0 + n
-    same = omega arith
-turned-twice (suc m) n hand = ap turned (turned-twice m n hand) ∙ ap (λ (k : ℕ). turned_times k hand) same
-  where
-    same : suc (m + n) ≡ suc m + n
-    same = omega arith
+-- what lies before the slot of caller i goes behind the others
+pub hand_opens : (marks : List Bool) (i n : ℕ) (b : Bool) (c : Known) → HasDesk c → i < length marks → get_or marks i false ≡ b → n ≡ 1 + count_by (λ mark. mark) (take i marks)
+    → turned_times n (hand_of marks c) ≡ slot_if b i ++ (back_hand marks i c ++ front_hand marks i)
+hand_opens marks i n b c has inside is size =
+    let here : hand_of marks c ≡ front_hand marks i ++ (slot_if b i ++ back_hand marks i c) =
+    ap (λ (l : List Bool). hand_of l c) (sym (set-get_or marks i false)) ∙ (ap (λ (m : Bool). hand_of (set marks i m) c) is ∙ hand-set marks i b c has inside) in
+    let long = length-marked 0 (take i marks) in
+    ap (turned_times n) here ∙ (turned-front n (front_hand marks i) (slot_if b i ++ back_hand marks i c) (omega arith) ∙ append_assoc (slot_if b i) (back_hand marks i c) (front_hand marks i))
 
--- the slots of the requests taken after these, and of those taken before
-abbrev later_hand : List Request → Hand
-later_hand later = stacked later []
+-- and comes to the front again
+hand-closes : (marks : List Bool) (i n : ℕ) (b : Bool) (c : Known) → HasDesk c → i < length marks → n ≡ length (slot_if b i) + (count_by (λ mark. mark) (drop (i + 1) marks) + length (own_hand c.standing.number c.standing.phase))
+    → turned_times n (slot_if b i ++ (back_hand marks i c ++ front_hand marks i)) ≡ hand_of (set marks i b) c
+hand-closes marks i n b c has inside size =
+    let upper : Hand = marked_slots (i + 1) (drop (i + 1) marks) in
+    let own : Hand = own_hand c.standing.number c.standing.phase in
+    let long = length-marked (i + 1) (drop (i + 1) marks) in
+    let sized : length (slot_if b i ++ back_hand marks i c) ≡ n = length-append (slot_if b i) (upper ++ own) ∙ (ap (λ (m : ℕ). length (slot_if b i) + m) (length-append upper own) ∙ omega arith) in
+    ap (turned_times n) (sym (append_assoc (slot_if b i) (back_hand marks i c) (front_hand marks i)))
+    ∙ (turned-front n (slot_if b i ++ back_hand marks i c) (front_hand marks i) sized ∙ sym (hand-set marks i b c has inside))
 
-abbrev earlier_hand : Known → List Request → Hand
-earlier_hand c earlier = stacked earlier ((0, Nothing) ∷ own_hand c.number c.phase)
+-- the hand without the slot of caller i
+pub hand_closes : (marks : List Bool) (i n : ℕ) (c : Known) → HasDesk c → i < length marks → n ≡ count_by (λ mark. mark) (drop (i + 1) marks) + length (own_hand c.standing.number c.standing.phase)
+    → turned_times n (back_hand marks i c ++ front_hand marks i) ≡ hand_of (set marks i false) c
+hand_closes marks i n c has inside size = hand-closes marks i n false c has inside (omega arith)
 
-hand_there : (c : Known) (i : ℕ) (earlier later : List Request) (call : Call) → HasDesk c → (pass_in c).taken ≡ earlier ++ request i call ∷ later
-    → hand_of c ≡ later_hand later ++ (i + 1, Nothing) ∷ earlier_hand c earlier
-hand_there c i earlier later call has there = hand_with_desk c has ∙ (ap (λ (rs : List Request). desk_hand c rs) there
-    ∙ (stacked-after earlier (request i call ∷ later) ((0, Nothing) ∷ own_hand c.number c.phase) ∙ stacked-append later [] ((i + 1, Nothing) ∷ earlier_hand c earlier)))
+-- the same, where there is none
+pub hand_closes_again : (marks : List Bool) (i n : ℕ) (c : Known) → HasDesk c → i < length marks → get_or marks i false ≡ false → n ≡ count_by (λ mark. mark) (drop (i + 1) marks) + length (own_hand c.standing.number c.standing.phase)
+    → turned_times n (back_hand marks i c ++ front_hand marks i) ≡ hand_of marks c
+hand_closes_again marks i n c has inside is size =
+    hand_closes marks i n c has inside size ∙ (ap (λ (b : Bool). hand_of (set marks i b) c) (sym is) ∙ ap (λ (l : List Bool). hand_of l c) (set-get_or marks i false))
 
--- the hand with the slot of caller i in front
-pub hand_turned : (c : Known) (i n : ℕ) (earlier later : List Request) (call : Call) → HasDesk c → (pass_in c).taken ≡ earlier ++ request i call ∷ later → length later ≡ n
-    → turned_times n (hand_of c) ≡ (i + 1, Nothing) ∷ (earlier_hand c earlier ++ later_hand later)
-hand_turned c i n earlier later call has there size = ap (turned_times n) (hand_there c i earlier later call has there)
-    ∙ turned-front n (later_hand later) ((i + 1, Nothing) ∷ earlier_hand c earlier) (length-stacked later [] ∙ omega arith)
-
--- the hand without this slot, in order again
-pub hand_strikes : (c : Known) (i own before : ℕ) (earlier later : List Request) (call : Call) → IsOrderly (pass_in c) → (pass_in c).taken ≡ earlier ++ request i call ∷ later → length earlier ≡ before
-    → own ≡ length (own_hand c.number c.phase) → turned_times own (turned (turned_times before (earlier_hand c earlier ++ later_hand later))) ≡ hand_of (passing c (strikes (pass_in c) i))
-hand_strikes c i own before earlier later call o there size own_is =
-    turned-twice own (suc before) (earlier_hand c earlier ++ later_hand later)
-    ∙ (turned-front (own + suc before) (earlier_hand c earlier) (later_hand later) (length-stacked earlier ((0, Nothing) ∷ own_hand c.number c.phase) ∙ omega arith)
-    ∙ (sym (stacked-append later [] (earlier_hand c earlier)) ∙ (sym (stacked-after earlier later ((0, Nothing) ∷ own_hand c.number c.phase))
-    ∙ ap (λ (rs : List Request). desk_hand c rs) (sym (strikes_middle (pass_in c) i earlier later call o there).0))))
+-- and with it
+pub hand_takes : (marks : List Bool) (i n : ℕ) (c : Known) → HasDesk c → i < length marks → n ≡ count_by (λ mark. mark) (drop (i + 1) marks) + length (own_hand c.standing.number c.standing.phase)
+    → turned_times (1 + n) ((i + 1, Nothing) ∷ (back_hand marks i c ++ front_hand marks i)) ≡ hand_of (set marks i true) c
+hand_takes marks i n c has inside size = hand-closes marks i (1 + n) true c has inside (omega arith)
 
 -- a caller that takes its outcome has its own slot again
-pub hand_collects : (c c' : Known) (number : ℕ) → c.number ≡ number → IsLeft c → (c'.pass ≡ c.pass) × (c'.phase ≡ Idle) × (c'.number ≡ c.number) → hand_of c ++ (number + 1, Nothing) ∷ [] ≡ hand_of c'
-hand_collects c c' number same left kept =
-    ap (λ (p : Phase). pass_hand c.pass (own_hand c.number p) ++ (number + 1, Nothing) ∷ []) left ∙ (sym (pass_hand-own c.pass ((number + 1, Nothing) ∷ []))
-    ∙ (ap (λ (z : ℕ). pass_hand c.pass (own_hand z Idle)) (sym same ∙ sym kept.2) ∙ (ap (λ (z : Option Pass). pass_hand z (own_hand c'.number Idle)) (sym kept.0)
-    ∙ ap (λ (p : Phase). pass_hand c'.pass (own_hand c'.number p)) (sym kept.1))))
+pub hand_collects : (marks : List Bool) (c : Known) (d : Standing) (number : ℕ) → c.standing.number ≡ number → IsLeft c.standing → d.phase ≡ Idle → d.number ≡ c.standing.number
+    → hand_of marks c ++ (number + 1, Nothing) ∷ [] ≡ hand_of marks (with_standing c d)
+hand_collects marks c d number same left idle kept =
+    let mine : Hand = (number + 1, Nothing) ∷ [] in
+    let lower : Hand = marked_slots 0 marks in
+    ap (λ (p : Phase). (desk_hand c.pass ++ (lower ++ own_hand c.standing.number p)) ++ mine) left
+    ∙ (append_assoc (desk_hand c.pass) (lower ++ []) mine ∙ (ap (λ h. desk_hand c.pass ++ h) (append_assoc lower [] mine)
+    ∙ (λ j. desk_hand c.pass ++ (lower ++ own_hand ((sym same ∙ sym kept) j) (sym idle j)))))

@@ -39,15 +39,15 @@ at_holds (x ∷ xs) zero v e = omega arith
 at_holds (x ∷ xs) (suc j) v e = let lt = at_holds xs j v e in omega arith
 
 -- the seat of the caller that takes the desk, or goes on with its pass
-pub holder_begins : (views : List View) (station : ℕ → Station) (me : ℕ) (v : View) (c : Known) (p : Pass) → get_elem? views me ≡ some v → (station c.number).seat ≡ me → c.pass ≡ Some p
-    → HolderSits (set views me (Caller c)) station (held_by c.number p)
+pub holder_begins : (views : List View) (station : ℕ → Station) (me : ℕ) (v : View) (c : Known) (p : Pass) → get_elem? views me ≡ some v → (station c.standing.number).seat ≡ me → c.pass ≡ Some p
+    → HolderSits (set views me (Caller c)) station (held_by c.standing.number p)
 holder_begins views station me v c p there seat has = (c, ap (get_elem? (set views me (Caller c))) seat ∙ set_here views me (Caller c) (at_holds views me v there), refl, has)
 
 -- the seat of a caller that knows more, while nobody takes the desk or gives it back
-pub holder_follows : (views : List View) (station station' : ℕ → Station) (lock : Lock) (me : ℕ) (c c' : Known) → get_elem? views me ≡ some (Caller c) → c'.number ≡ c.number
-    → ((k : ℕ) → (station' k).seat ≡ (station k).seat) → (station c'.number).seat ≡ me → c'.pass ≡ pass_of lock c'.number → HolderSits views station lock → HolderSits (set views me (Caller c')) station' lock
+pub holder_follows : (views : List View) (station station' : ℕ → Station) (lock : Lock) (me : ℕ) (c c' : Known) → get_elem? views me ≡ some (Caller c) → c'.standing.number ≡ c.standing.number
+    → ((k : ℕ) → (station' k).seat ≡ (station k).seat) → (station c'.standing.number).seat ≡ me → c'.pass ≡ pass_of lock c'.standing.number → HolderSits views station lock → HolderSits (set views me (Caller c')) station' lock
 holder_follows views station station' free me c c' there number seats seat pass holder = tt
-holder_follows views station station' (held_by h p) me c c' there number seats seat pass holder = dite (ℕ_discrete h c'.number)
+holder_follows views station station' (held_by h p) me c c' there number seats seat pass holder = dite (ℕ_discrete h c'.standing.number)
     (λ same. (
       c',
       ap (get_elem? (set views me (Caller c'))) (seats h ∙ (ap (λ (n : ℕ). (station n).seat) same ∙ seat)) ∙ set_here views me (Caller c') (at_holds views me (Caller c) there),
@@ -55,7 +55,7 @@ holder_follows views station station' (held_by h p) me c c' there number seats s
       pass ∙ (ap (pass_of (held_by h p)) (sym same) ∙ pass_there h p),
     ))
     (λ other. let apart : (station h).seat ≢ me = λ e. let is : Caller holder.0 ≡ Caller c = some-injective (Caller holder.0) (Caller c) (sym holder.1 ∙ (ap (get_elem? views) e ∙ there)) in
-    let known : holder.0 ≡ c = cc is in other (sym holder.2 ∙ (ap (λ (k : Known). k.number) known ∙ sym number)) in
+    let known : holder.0 ≡ c = cc is in other (sym holder.2 ∙ (ap (λ (k : Known). k.standing.number) known ∙ sym number)) in
     (holder.0, ap (get_elem? (set views me (Caller c'))) (seats h) ∙ (set_else views me (station h).seat (Caller c') apart ∙ holder.1), holder.2, holder.3))
 
 -- a step by a seat that is no caller's
@@ -87,7 +87,7 @@ made_sit_after views station station' made me v w there same seats sit k lt =
 seat_of_caller : (room n made : ℕ) (line : List Entry) (lock : Lock) (station : ℕ → Station) (j k : ℕ) (v : View) → Knows room n made line lock station j v → sitter_of v ≡ Some k → (station k).seat ≡ j
 seat_of_caller room n made line lock station j k (Maker q m) h e = absurd (cc e)
 seat_of_caller room n made line lock station j k (Newcomer q i) h e = let same : i ≡ k = cc e in ap (λ (z : ℕ). (station z).seat) (sym same) ∙ h.seat_is
-seat_of_caller room n made line lock station j k (Caller c) h e = let same : c.number ≡ k = cc e in ap (λ (z : ℕ). (station z).seat) (sym same) ∙ h.seat_is
+seat_of_caller room n made line lock station j k (Caller c) h e = let same : c.standing.number ≡ k = cc e in ap (λ (z : ℕ). (station z).seat) (sym same) ∙ h.seat_is
 seat_of_caller room n made line lock station j k (Bare seen) h e = absurd (cc e)
 seat_of_caller room n made line lock station j k Spent h e = absurd (cc e)
 

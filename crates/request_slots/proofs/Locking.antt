@@ -1,7 +1,7 @@
 -- A try at the lock keeps the rule, whether the desk is taken or another caller is found to have it.
 -- `locks` is what the table asks of the step.
 use Rattle.std.specs.Global.{Box}
-use Rattle.std.proofs.Common.{◌≡◌, ◌≢◌, ◌⊎◌, ℕ, ◌+◌, ◌<◌, Bool, true, List, [], ◌++◌, get_or, eqb, Option, Some, None, refl, sym, ap, ◌∙◌, subst, ⊎_elim, inl, arith, eq-eqb, ne_eqb}
+use Rattle.std.proofs.Common.{◌≡◌, ◌≢◌, ◌⊎◌, ℕ, ◌+◌, ◌-◌, ◌<◌, Bool, true, List, [], ◌++◌, get_or, eqb, Option, Some, None, refl, sym, ap, ◌∙◌, subst, ⊎_elim, inl, arith, eq-eqb, ne_eqb}
 use mathlib.Core.Logic.{dite}
 use mathlib.Core.Option.{some, none}
 use native.Mathlib.Decide.{ℕ_discrete}
@@ -28,7 +28,9 @@ use Rattle.request_slots.specs.Locks.{DeskRests, LockHolds}
 use Rattle.request_slots.specs.Requests.{CallerHolds}
 use Rattle.request_slots.specs.Phases.{PhaseHolds}
 use Rattle.request_slots.specs.Lawful.{IsNotMade, CallerKnows, Knows, Lawful}
-use Rattle.request_slots.specs.Views.{known_of, left_calls, locking, finding, OwnCallsIn, ShowsLine}
+use Rattle.request_slots.specs.Standing.{left_calls}
+use Rattle.request_slots.specs.Changes.{meeting, HasOwnCalls, ShowsLine}
+use Rattle.request_slots.specs.Views.{with_standing, known_of, locking}
 use Rattle.request_slots.specs.Events.{Sat, Locks}
 use Rattle.request_slots.proofs.Stations.{put, put_here, put_else, put_seat, put_rises, put_abides, others_know}
 use Rattle.request_slots.proofs.Holders.{pass_elsewhere, pass_there, holder_begins, holder_follows, holder_has_held}
@@ -49,21 +51,21 @@ module _ (room : ℕ) (s : State Slot View) (r : Lawful room s) (id : ℕ) (c : 
   knows = r.each_seat id (Caller c) there
 
   abbrev here : Station
-  here = r.station c.number
+  here = r.station c.standing.number
 
-  inside : c.number < r.n
+  inside : c.standing.number < r.n
   inside = knows.inside
 
   -- the free lock is taken, with the desk
-  lock_keeps : (d : Desk) → r.lock ≡ free → DeskRests room r.n r.line d → Lawful room (handed s (c.number + 1) none id (Caller (locking c d.book.history)))
+  lock_keeps : (d : Desk) → r.lock ≡ free → DeskRests room r.n r.line d → Lawful room (handed s (c.standing.number + 1) none id (Caller (locking c d.book.history)))
   lock_keeps d is_free rests =
       let st : Station = noted here true in
       let p : Pass = fresh_pass d.book.history in
-      let lock : Lock = held_by c.number p in
+      let lock : Lock = held_by c.standing.number p in
       let free_before = relocked room s r free is_free in
-      let rises = put_rises r.station c.number st (λ _. refl) in
-      lock_step room s r (c.number + 1) none (put r.station c.number st) lock id (Caller c) (Caller (locking c d.book.history)) there refl (put_seat r.station c.number st refl)
-      (λ k above. let made = knows.number_made in subst IsNotMade (sym (put_else r.station c.number st k (λ e. omega arith))) (r.not_made k above))
+      let rises = put_rises r.station c.standing.number st (λ _. refl) in
+      lock_step room s r (c.standing.number + 1) none (put r.station c.standing.number st) lock id (Caller c) (Caller (locking c d.book.history)) there refl (put_seat r.station c.standing.number st refl)
+      (λ k above. let made = knows.number_made in subst IsNotMade (sym (put_else r.station c.standing.number st k (λ e. omega arith))) (r.not_made k above))
       record {
         word_is = refl;
         inside = inside;
@@ -76,15 +78,15 @@ module _ (room : ℕ) (s : State Slot View) (r : Lawful room s) (id : ℕ) (c : 
           of_callers = λ k _. refl;
         };
       }
-      (λ k lt. dite (ℕ_discrete k c.number)
+      (λ k lt. dite (ℕ_discrete k c.standing.number)
       (λ same. subst (λ (z : Station). CallerHolds room r.line (part_of lock k) (get_or s.words (k + 2) 0) (get_elem? s.homes (k + 1)) k z)
-      (ap (λ (z : ℕ). noted (r.station z) true) same ∙ (sym (put_here r.station c.number st) ∙ ap (put r.station c.number st) (sym same)))
+      (ap (λ (z : ℕ). noted (r.station z) true) same ∙ (sym (put_here r.station c.standing.number st) ∙ ap (put r.station c.standing.number st) (sym same)))
       (part_free room r.line (part_of free k) (part_of lock k) (get_or s.words (k + 2) 0) (get_elem? s.homes (k + 1)) k (r.station k) true refl refl (free_before.each_caller k lt)))
       (λ other. subst (λ (z : Station). CallerHolds room r.line (part_of lock k) (get_or s.words (k + 2) 0) (get_elem? s.homes (k + 1)) k z)
-      (sym (put_else r.station c.number st k other))
+      (sym (put_else r.station c.standing.number st k other))
       (part_free room r.line (part_of free k) (part_of lock k) (get_or s.words (k + 2) 0) (get_elem? s.homes (k + 1)) k (r.station k) (r.station k).held refl refl (free_before.each_caller k lt))))
-      (subst (λ (z : Station × (Option Pass)). CallerKnows room r.n r.made r.line z.1 z.0 (λ m. (put r.station c.number st m).held) id (locking c d.book.history))
-      (λ i. (sym (put_here r.station c.number st) i, sym (pass_there c.number p) i)) record {
+      (subst (λ (z : Station × (Option Pass)). CallerKnows room r.n r.made r.line z.1 z.0 (λ m. (put r.station c.standing.number st m).held) id (locking c d.book.history))
+      (λ i. (sym (put_here r.station c.standing.number st) i, sym (pass_there c.standing.number p) i)) record {
         number_made = knows.number_made;
         inside = knows.inside;
         seat_is = knows.seat_is;
@@ -92,10 +94,10 @@ module _ (room : ℕ) (s : State Slot View) (r : Lawful room s) (id : ℕ) (c : 
         own_is = knows.own_is;
         fronts = knows.fronts;
         pass_is = refl;
-        phase = phase_noted c.number c.seen c.own here true c.phase knows.phase;
+        phase = phase_noted c.standing.number c.standing.seen c.standing.own here true c.standing.phase knows.phase;
         settled = record {
           done = knows.settled.done;
-          tried = λ q e t. let same : p ≡ q = cc e in absurd (cc (ap (λ (z : Pass). is_in z.tried c.number) same ∙ t));
+          tried = λ q e t. let same : p ≡ q = cc e in absurd (cc (ap (λ (z : Pass). is_in z.tried c.standing.number) same ∙ t));
         };
         notes = record {
           held_is = refl;
@@ -103,12 +105,12 @@ module _ (room : ℕ) (s : State Slot View) (r : Lawful room s) (id : ℕ) (c : 
           others_held = λ m e. let t = knows.notes.others_held m e in (t.0, t.1, rises m t.2);
         };
       })
-      (others_know room r.n r.made r.line r.line r.lock lock r.station (put r.station c.number st) c.number id knows.seat_is (begins_self r.line)
-      (λ i other. pass_elsewhere c.number i p other ∙ ap (λ l. pass_of l i) (sym is_free)) (put_abides r.station c.number st) rises)
-      (holder_begins s.views (put r.station c.number st) id (Caller c) (locking c d.book.history) p there (ap (λ (z : Station). z.seat) (put_here r.station c.number st) ∙ knows.seat_is) refl)
+      (others_know room r.n r.made r.line r.line r.lock lock r.station (put r.station c.standing.number st) c.standing.number id knows.seat_is (begins_self r.line)
+      (λ i other. pass_elsewhere c.standing.number i p other ∙ ap (λ l. pass_of l i) (sym is_free)) (put_abides r.station c.standing.number st) rises)
+      (holder_begins s.views (put r.station c.standing.number st) id (Caller c) (locking c d.book.history) p there (ap (λ (z : Station). z.seat) (put_here r.station c.standing.number st) ∙ knows.seat_is) refl)
 
   -- another caller was found at the lock
-  meet_knows : (h : ℕ) → h ≢ c.number → h < r.n → (r.station h).held ≡ true → Knows room r.n r.made r.line r.lock r.station id (Caller (finding c h))
+  meet_knows : (h : ℕ) → h ≢ c.standing.number → h < r.n → (r.station h).held ≡ true → Knows room r.n r.made r.line r.lock r.station id (Caller (with_standing c (meeting c.standing h)))
   meet_knows h other near had = record {
     number_made = knows.number_made;
     inside = knows.inside;
@@ -122,20 +124,20 @@ module _ (room : ℕ) (s : State Slot View) (r : Lawful room s) (id : ℕ) (c : 
     notes = record {
       held_is = knows.notes.held_is;
       holder_held = knows.notes.holder_held;
-      others_held = λ m e. ⊎_elim (knows.notes.others_held m) (λ (t : h ≡ m). subst (λ (z : ℕ). (z ≢ c.number) × (z < r.n) × ((r.station z).held ≡ true)) t (other, near, had)) (is_in-push c.met h m e);
+      others_held = λ m e. ⊎_elim (knows.notes.others_held m) (λ (t : h ≡ m). subst (λ (z : ℕ). (z ≢ c.standing.number) × (z < r.n) × ((r.station z).held ≡ true)) t (other, near, had)) (is_in-push c.standing.met h m e);
     };
   }
 
 -- what a caller is told of the line, with the desk
-shows_line : (room slots : ℕ) (s : State Slot View) (r : Lawful room s) (id : ℕ) (c : Known) (d : Desk) → slots ≡ r.n + 1 → Knows room r.n r.made r.line r.lock r.station id (Caller c) → DeskRests room r.n r.line d → ShowsLine slots c d.book
+shows_line : (room slots : ℕ) (s : State Slot View) (r : Lawful room s) (id : ℕ) (c : Known) (d : Desk) → slots ≡ r.n + 1 → Knows room r.n r.made r.line r.lock r.station id (Caller c) → DeskRests room r.n r.line d → ShowsLine (slots - 1) c.standing d.book
 shows_line room slots s r id c d sized knows rests = let is_line : r.line ≡ d.book.history = sym rests.history_is in record {
   room = rests.room_is ∙ sym knows.room_is;
-  begins = subst (Begins c.seen) is_line knows.fronts.seen_begins;
-  own = subst (OwnCallsIn c) is_line (own_calls c.number r.line c.own (r.station c.number) c.phase (phase_along room s r id c knows));
+  begins = subst (Begins c.standing.seen) is_line knows.fronts.seen_begins;
+  own = subst (HasOwnCalls c.standing) is_line (own_calls c.standing.number r.line c.standing.own (r.station c.standing.number) c.standing.phase (phase_along room s r id c knows));
   no_strangers = λ i far. subst (λ l. calls_by i l ≡ []) is_line (r.line_holds.no_strangers i (omega arith));
 }
 
-pub locks : (room slots id k : ℕ) (me : Sat) → me.0 ≡ Caller (known_of me.0) → (known_of me.0).number ≡ k → (known_of me.0).pass ≡ None
+pub locks : (room slots id k : ℕ) (me : Sat) → me.0 ≡ Caller (known_of me.0) → (known_of me.0).standing.number ≡ k → (known_of me.0).pass ≡ None
     → Allows (Lawful room) slots id me 0 (λ x. either (eqb x 0) (k + 1) x) (Locks (step slots 0 0 (k + 1) none) me)
 locks room slots id k me is number no_pass s r deep at small =
     go (subst (Knows room r.n r.made r.line r.lock r.station id) is (r.each_seat id me.0 at)) r.lock refl
@@ -167,13 +169,13 @@ locks room slots id k me is number no_pass s r deep at small =
     go knows (held_by q p) e =
         let c : Known = known_of me.0 in let x : ℕ = get_or s.words 0 0 in
         let h = subst (LockHolds room r.n r.line x (get_elem? s.homes 0)) e r.lock_holds in
-        let other : q ≢ c.number = λ same. let t : Some p ≡ None = sym (pass_there q p) ∙ (ap (pass_of (held_by q p)) same ∙ (ap (λ l. pass_of l c.number) (sym e) ∙ (sym knows.pass_is ∙ no_pass))) in absurd (cc t) in
+        let other : q ≢ c.standing.number = λ same. let t : Some p ≡ None = sym (pass_there q p) ∙ (ap (pass_of (held_by q p)) same ∙ (ap (λ l. pass_of l c.standing.number) (sym e) ∙ (sym knows.pass_is ∙ no_pass))) in absurd (cc t) in
         let miss : x ≢ 0 = λ e. let word = h.word_is in omega arith in (
-          Caller (finding c q),
+          Caller (with_standing c (meeting c.standing q)),
           keeps,
           tt,
-          subst (λ b. Lawful room (stepped s 0 (either b (k + 1) x) id me.1 (Caller (finding c q)) keeps)) (sym (ne_eqb x 0 miss))
-              (view_step room s r 0 id (Caller c) (Caller (finding c q)) (at ∙ ap (λ (v : View). some v) is) refl (meet_knows room s r id c (at ∙ ap (λ (v : View). some v) is) q other h.inside (holder_has_held room s r q p e))
-              (holder_follows s.views r.station r.station r.lock id c (finding c q) (at ∙ ap (λ (v : View). some v) is) refl (λ _. refl) knows.seat_is knows.pass_is r.holder_sits)),
-          ((λ hit. absurd (miss hit)), λ _. (finding c q, (q, other, (let near = h.inside in let sized : slots ≡ r.n + 1 = sym deep ∙ r.deep in omega arith), refl), refl)),
+          subst (λ b. Lawful room (stepped s 0 (either b (k + 1) x) id me.1 (Caller (with_standing c (meeting c.standing q))) keeps)) (sym (ne_eqb x 0 miss))
+              (view_step room s r 0 id (Caller c) (Caller (with_standing c (meeting c.standing q))) (at ∙ ap (λ (v : View). some v) is) refl (meet_knows room s r id c (at ∙ ap (λ (v : View). some v) is) q other h.inside (holder_has_held room s r q p e))
+              (holder_follows s.views r.station r.station r.lock id c (with_standing c (meeting c.standing q)) (at ∙ ap (λ (v : View). some v) is) refl (λ _. refl) knows.seat_is knows.pass_is r.holder_sits)),
+          ((λ hit. absurd (miss hit)), λ _. (meeting c.standing q, (q, (other, (let near = h.inside in let sized : slots ≡ r.n + 1 = sym deep ∙ r.deep in omega arith)), refl), refl)),
         )

@@ -28,7 +28,9 @@ use Rattle.request_slots.specs.Requests.{FateHolds, ServedHolds, StageHolds, Cal
 use Rattle.request_slots.specs.Fronts.{IsOfCallers}
 use Rattle.request_slots.specs.Phases.{PhaseHolds}
 use Rattle.request_slots.specs.Lawful.{CallerKnows, Knows, Lawful}
-use Rattle.request_slots.specs.Views.{known_of, seen_in, looking, informed, adopting, longer, IsAtRest, FrontHolds}
+use Rattle.request_slots.specs.Standing.{Rests, FrontHolds}
+use Rattle.request_slots.specs.Changes.{longer, seeing}
+use Rattle.request_slots.specs.Views.{with_standing, known_of, seen_in, informed, adopting}
 use Rattle.request_slots.specs.Events.{Sat, Looks, Adopts}
 use Rattle.request_slots.proofs.Holders.{holder_follows, holder_apart, holder_more, seats_apart}
 use Rattle.request_slots.proofs.Carrying.{seats_after, view_change, view_step}
@@ -88,9 +90,9 @@ phase_of_line room line part word home k seen own s (Left calls start) h same sa
 
 -- the same for a caller of the table
 pub phase_along : (room : ℕ) (s : State Slot View) (r : Lawful room s) (id : ℕ) (c : Known) → Knows room r.n r.made r.line r.lock r.station id (Caller c)
-    → PhaseHolds c.number r.line c.own (r.station c.number) c.phase
-phase_along room s r id c knows = phase_of_line room r.line (part_of r.lock c.number) (get_or s.words (c.number + 2) 0) (get_elem? s.homes (c.number + 1)) c.number c.seen c.own (r.station c.number) c.phase
-    (r.each_caller c.number knows.inside) knows.own_is knows.fronts.seen_begins knows.phase
+    → PhaseHolds c.standing.number r.line c.standing.own (r.station c.standing.number) c.standing.phase
+phase_along room s r id c knows = phase_of_line room r.line (part_of r.lock c.standing.number) (get_or s.words (c.standing.number + 2) 0) (get_elem? s.homes (c.standing.number + 1)) c.standing.number c.standing.seen c.standing.own (r.station c.standing.number) c.standing.phase
+    (r.each_caller c.standing.number knows.inside) knows.own_is knows.fronts.seen_begins knows.phase
 
 -- what a phase says stays true of what is between a caller's front and the line
 phase_between : (k : ℕ) (xs ys zs : List Entry) (own : List Call) (s : Station) (phase : Phase) → Begins xs ys → Begins ys zs → PhaseHolds k xs own s phase → PhaseHolds k zs own s phase → PhaseHolds k ys own s phase
@@ -111,10 +113,10 @@ phase_between k xs ys zs own s (Left calls start) p q low high = record {
     go (inr a) (inr b) = inr (calls_between k xs ys zs (own ++ calls) p q a b)
 
 -- an idle caller has its record in what it has seen, and is not settled
-rests_of : {room n made : ℕ} {line : List Entry} {pass : Option Pass} {mine : Station} {has_held : ℕ → Bool} {seat : ℕ} {c : Known} → CallerKnows room n made line pass mine has_held seat c → IsAtRest c
+rests_of : {room n made : ℕ} {line : List Entry} {pass : Option Pass} {mine : Station} {has_held : ℕ → Bool} {seat : ℕ} {c : Known} → CallerKnows room n made line pass mine has_held seat c → Rests c.standing
 rests_of {mine} {c} knows at_rest =
-    let phase = subst (PhaseHolds c.number c.seen c.own mine) at_rest knows.phase in
-    (phase.own_is, not_true c.settled (λ e. cc (knows.settled.done e, phase.stage_is)))
+    let phase = subst (PhaseHolds c.standing.number c.standing.seen c.standing.own mine) at_rest knows.phase in
+    (phase.own_is, not_true c.standing.settled (λ e. cc (knows.settled.done e, phase.stage_is)))
 
 -- what begins a history of callers of the table is of these callers too
 pub begins_of_callers : (slots n : ℕ) (seen line : List Entry) → slots ≡ n + 1 → Begins seen line → IsOfCallers n line → IsOfCallers (slots - 1) seen
@@ -122,12 +124,12 @@ begins_of_callers slots n seen line sized saw all k far = calls_between k [] see
 
 -- what a caller knows by the rule holds of what it has seen
 pub front_of : (slots : ℕ) {room n made : ℕ} {line : List Entry} {pass : Option Pass} {mine : Station} {has_held : ℕ → Bool} {seat : ℕ} {c : Known} → slots ≡ n + 1 → IsOfCallers n line
-    → CallerKnows room n made line pass mine has_held seat c → FrontHolds slots c
-front_of slots {n} {line} {c} sized all knows = (rests_of knows, begins_of_callers slots n c.seen line sized knows.fronts.seen_begins all)
+    → CallerKnows room n made line pass mine has_held seat c → FrontHolds (slots - 1) c.standing
+front_of slots {n} {line} {c} sized all knows = (rests_of knows, begins_of_callers slots n c.standing.seen line sized knows.fronts.seen_begins all)
 
 -- a caller that sees more of the line
-sees_more : (room : ℕ) (s : State Slot View) (r : Lawful room s) (id : ℕ) (c : Known) (seen : List Entry) → Knows room r.n r.made r.line r.lock r.station id (Caller c) → Begins seen r.line → Begins c.seen seen
-    → Knows room r.n r.made r.line r.lock r.station id (Caller (looking c seen))
+sees_more : (room : ℕ) (s : State Slot View) (r : Lawful room s) (id : ℕ) (c : Known) (seen : List Entry) → Knows room r.n r.made r.line r.lock r.station id (Caller c) → Begins seen r.line → Begins c.standing.seen seen
+    → Knows room r.n r.made r.line r.lock r.station id (Caller (with_standing c (seeing c.standing seen)))
 sees_more room s r id c seen knows saw longer = record {
   number_made = knows.number_made;
   inside = knows.inside;
@@ -136,7 +138,7 @@ sees_more room s r id c seen knows saw longer = record {
   own_is = knows.own_is;
   fronts = record { seen_begins = saw; told_begins = knows.fronts.told_begins; start_begins = knows.fronts.start_begins };
   pass_is = knows.pass_is;
-  phase = phase_between c.number c.seen seen r.line c.own (r.station c.number) c.phase longer saw knows.phase (phase_along room s r id c knows);
+  phase = phase_between c.standing.number c.standing.seen seen r.line c.standing.own (r.station c.standing.number) c.standing.phase longer saw knows.phase (phase_along room s r id c knows);
   settled = knows.settled;
   notes = knows.notes;
 }
@@ -162,18 +164,18 @@ looks room slots id me is s r deep at small =
     let there : get_elem? s.views id ≡ some (Caller c) = at ∙ ap (λ (v : View). some v) is in
     let knows = r.each_seat id (Caller c) there in
     let after = sees_more room s r id c r.line knows (begins_self r.line) knows.fronts.seen_begins in (
-      Caller (looking c r.line),
+      Caller (with_standing c (seeing c.standing r.line)),
       keeps,
       tt,
-      view_step room s r 1 id (Caller c) (Caller (looking c r.line)) there refl after
-          (holder_follows s.views r.station r.station r.lock id c (looking c r.line) there refl (λ _. refl) knows.seat_is knows.pass_is r.holder_sits),
+      view_step room s r 1 id (Caller c) (Caller (with_standing c (seeing c.standing r.line))) there refl after
+          (holder_follows s.views r.station r.station r.lock id c (with_standing c (seeing c.standing r.line)) there refl (λ _. refl) knows.seat_is knows.pass_is r.holder_sits),
       (r.line, r.line_holds.length_is, knows.fronts.seen_begins, refl, front_of slots (sym deep ∙ r.deep) r.line_holds.no_strangers after),
     )
 
-pub shows : (room id : ℕ) (v : View) → v ≡ Caller (known_of v) → Splits (Lawful room) id v v (Bare (known_of v).seen)
+pub shows : (room id : ℕ) (v : View) → v ≡ Caller (known_of v) → Splits (Lawful room) id v v (Bare (known_of v).standing.seen)
 shows room id v is s r at =
     let knows = subst (Knows room r.n r.made r.line r.lock r.station id) is (r.each_seat id v at) in
-    let bare : View = Bare (known_of v).seen in
+    let bare : View = Bare (known_of v).standing.seen in
     let seats : (j : ℕ) (w : View) → get_elem? (set s.views id v ++ bare ∷ []) j ≡ some w → Knows room r.n r.made r.line r.lock r.station j w =
     λ j w e. ⊎_elim (seats_after (Knows room r.n r.made r.line r.lock r.station) (Knows room r.n r.made r.line r.lock r.station) s.views id v (r.each_seat id v at) (λ i other x h. h) r.each_seat j w)
     (λ (t : bare ≡ w). subst (Knows room r.n r.made r.line r.lock r.station j) t knows.fronts.seen_begins) (at_snoc (set s.views id v) bare w j e) in
@@ -211,8 +213,8 @@ pub adopts : (room slots id : ℕ) (me : Sat) → me.0 ≡ Caller (known_of me.0
 adopts room slots id me is s r deep at small =
     let c : Known = known_of me.0 in
     let knows = subst (Knows room r.n r.made r.line r.lock r.station id) is (r.each_seat id me.0 at) in
-    let both = longer_begins c.seen c.told r.line knows.fronts.seen_begins knows.fronts.told_begins in
-    let after = sees_more room s r id c (longer c.seen c.told) knows both.2 both.0 in (
+    let both = longer_begins c.standing.seen c.told r.line knows.fronts.seen_begins knows.fronts.told_begins in
+    let after = sees_more room s r id c (longer c.standing.seen c.told) knows both.2 both.0 in (
       Caller (adopting c),
       keeps,
       tt,

@@ -21,7 +21,8 @@ use Rattle.request_slots.specs.Passes.{Lock, free, held_by, pass_of, Part, part_
 use Rattle.request_slots.specs.Locks.{MadeSit}
 use Rattle.request_slots.specs.Requests.{StageHolds, request_at, CallerHolds}
 use Rattle.request_slots.specs.Lawful.{IsNotMade, NewcomerKnows, CallerKnows, Knows, Lawful}
-use Rattle.request_slots.specs.Views.{new_known, next_maker, next_caller, IsSpare}
+use Rattle.request_slots.specs.Standing.{Machine, newcomer}
+use Rattle.request_slots.specs.Views.{untold, IsSpare, next_maker, next_caller}
 use Rattle.request_slots.specs.Events.{Sat, Arrives}
 use Rattle.request_slots.proofs.Stations.{put, put_here, put_else, put_rises, put_abides, put_seat, caller_abides, others_know}
 use Rattle.request_slots.proofs.Holders.{pass_elsewhere, holder_apart, holder_more, holder_has_held, seats_apart, made_sit_after}
@@ -117,8 +118,8 @@ others_make room s r id k seat at j other (Newcomer q i) h =
 others_make room s r id k seat at j other (Caller c) h =
     let e = (r.each_seat id (Maker room k) at).1 in let made = h.number_made in
     let st : Station = seated (r.station k) seat in
-    let t = caller_abides room r.n r.made r.line r.line (pass_of r.lock c.number) (pass_of r.lock c.number) (r.station c.number) (put r.station k st c.number) (λ m. (r.station m).held) (λ m. (put r.station k st m).held) j c
-    (begins_self r.line) refl (put_abides r.station k st c.number (λ same. omega arith)) (put_rises r.station k st (λ z. z)) h in
+    let t = caller_abides room r.n r.made r.line r.line (pass_of r.lock c.standing.number) (pass_of r.lock c.standing.number) (r.station c.standing.number) (put r.station k st c.standing.number) (λ m. (r.station m).held) (λ m. (put r.station k st m).held) j c
+    (begins_self r.line) refl (put_abides r.station k st c.standing.number (λ same. omega arith)) (put_rises r.station k st (λ z. z)) h in
     record {
       number_made = omega arith;
       inside = t.inside;
@@ -206,10 +207,10 @@ no_pass_unheld room s r k free is e = refl
 no_pass_unheld room s r k (held_by q p) is e = pass_elsewhere q k p (λ same. unmade_apart room s r q k p is e (sym same))
 
 -- a new caller takes its slot out
-pub arrives : (key slots id room k : ℕ) (me : Sat) → me ≡ (Newcomer room k, []) → k + 1 < slots → Allows (Lawful key) slots id me (k + 2) (λ _. 1) (λ _. Arrives (step slots (k + 2) 1 0 none) me 1)
-arrives key slots id room k me is near = subst (λ (m : Sat). Allows (Lawful key) slots id m (k + 2) (λ _. 1) (λ _. Arrives (step slots (k + 2) 1 0 none) m 1)) (sym is) go
+pub arrives : (machine : Machine) (key slots id room k : ℕ) (me : Sat) → me ≡ (Newcomer room k, []) → k + 1 < slots → Allows (Lawful key) slots id me (k + 2) (λ _. 1) (λ _. Arrives machine (step slots (k + 2) 1 0 none) me 1)
+arrives machine key slots id room k me is near = subst (λ (m : Sat). Allows (Lawful key) slots id m (k + 2) (λ _. 1) (λ _. Arrives machine (step slots (k + 2) 1 0 none) m 1)) (sym is) go
   where
-    go : Allows (Lawful key) slots id (Newcomer room k, []) (k + 2) (λ _. 1) (λ _. Arrives (step slots (k + 2) 1 0 none) (Newcomer room k, []) 1)
+    go : Allows (Lawful key) slots id (Newcomer room k, []) (k + 2) (λ _. 1) (λ _. Arrives machine (step slots (k + 2) 1 0 none) (Newcomer room k, []) 1)
     go s r deep at small =
         let know = r.each_seat id (Newcomer room k) at in
         let sized : slots ≡ r.n + 1 = sym deep ∙ r.deep in
@@ -219,13 +220,13 @@ arrives key slots id room k me is near = subst (λ (m : Sat). Allows (Lawful key
         let stage = subst (StageHolds key r.line (part_of r.lock k) (get_elem? s.homes (k + 1)) k there) know.stage_is caller.stage_holds in
         let st : Station = record { stage = idle; seat = there.seat; own = there.own; calls = there.calls; start = there.start; held = there.held } in
         let rises = put_rises r.station k st (λ e. e) in (
-          Caller (new_known room k),
+          Caller (untold (newcomer machine room k)),
           takes (k + 1) Nothing,
           stage.home_is,
-          caller_step key s r k 1 none st r.lock id (Newcomer room k) (Caller (new_known room k)) inside know.number_made at refl refl (λ i other. refl)
+          caller_step key s r k 1 none st r.lock id (Newcomer room k) (Caller (untold (newcomer machine room k))) inside know.number_made at refl refl (λ i other. refl)
               record { word_is = refl; request_is = caller.request_is ∙ ap (λ (z : Stage). request_at z there.calls) know.stage_is; stage_holds = record { home_is = refl; own_is = stage.no_calls ∙ sym stage.own_is } }
               r.lock_holds
-              (subst (λ (z : Station). CallerKnows key r.n r.made r.line (pass_of r.lock k) z (λ m. (put r.station k st m).held) id (new_known room k)) (sym (put_here r.station k st)) record {
+              (subst (λ (z : Station). CallerKnows key r.n r.made r.line (pass_of r.lock k) z (λ m. (put r.station k st m).held) id (untold (newcomer machine room k))) (sym (put_here r.station k st)) record {
                 number_made = know.number_made;
                 inside = inside;
                 seat_is = know.seat_is;
@@ -238,6 +239,6 @@ arrives key slots id room k me is near = subst (λ (m : Sat). Allows (Lawful key
                 notes = record { held_is = sym know.not_held; holder_held = λ p e. absurd (cc e); others_held = λ m e. absurd (cc e) };
               })
               (others_know key r.n r.made r.line r.line r.lock r.lock r.station (put r.station k st) k id know.seat_is (begins_self r.line) (λ i other. refl) (put_abides r.station k st) rises)
-              (holder_apart s.views r.station (put r.station k st) r.lock id (Newcomer room k) (Caller (new_known room k)) at (λ c e. absurd (cc e)) (λ h p is. put_seat r.station k st refl h) r.holder_sits),
-          refl,
+              (holder_apart s.views r.station (put r.station k st) r.lock id (Newcomer room k) (Caller (untold (newcomer machine room k))) at (λ c e. absurd (cc e)) (λ h p is. put_seat r.station k st refl h) r.holder_sits),
+          λ q j e. let same_room : room ≡ q = cc e in let same : k ≡ j = cc e in λ i. (Caller (untold (newcomer machine (same_room i) (same i))), (same i + 1, Nothing) ∷ []),
         )

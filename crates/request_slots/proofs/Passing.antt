@@ -19,7 +19,8 @@ use Rattle.request_slots.specs.Passes.{held_by, is_in, part_of, pass_of}
 use Rattle.request_slots.specs.Locks.{PassHolds}
 use Rattle.request_slots.specs.Requests.{CallerHolds}
 use Rattle.request_slots.specs.Lawful.{Knows, Lawful}
-use Rattle.request_slots.specs.Views.{left_start, passing}
+use Rattle.request_slots.specs.Standing.{left_start}
+use Rattle.request_slots.specs.Views.{passing}
 use Rattle.request_slots.proofs.Stations.{put, Abides, put_all_abide, fronts_grow, phase_abides, others_know}
 use Rattle.request_slots.proofs.Holders.{lock_is, pass_there, pass_elsewhere, holder_begins}
 use Rattle.request_slots.proofs.Carrying.{relocked, caller_step, moved}
@@ -32,31 +33,31 @@ module _ (room : ℕ) (s : State Slot View) (r : Lawful room s) (id : ℕ) (c : 
   abbrev knows : Knows room r.n r.made r.line r.lock r.station id (Caller c)
   knows = r.each_seat id (Caller c) there
 
-  pub locked : r.lock ≡ held_by c.number p
-  locked = lock_is r.lock c.number p (sym has ∙ knows.pass_is)
+  pub locked : r.lock ≡ held_by c.standing.number p
+  locked = lock_is r.lock c.standing.number p (sym has ∙ knows.pass_is)
 
   abbrev pub mine : Lawful room s
-  mine = relocked room s r (held_by c.number p) locked
+  mine = relocked room s r (held_by c.standing.number p) locked
 
   pub holds_pass : PassHolds r.n r.line p
   holds_pass = mine.lock_holds.pass
 
   -- the view of the caller that has the desk, after a step of its pass
   pub own_knows : (line' : List Entry) (p' : Pass) (station' : ℕ → Station) (passes : List ℕ) → Begins r.line line' → ((m : ℕ) → Abides (r.station m) (station' m))
-      → (is_in p'.tried c.number ≡ true → (station' c.number).stage ≢ posted)
-      → Knows room r.n r.made line' (held_by c.number p') station' id (Caller (record c { pass = Some p'; passes = passes }))
-  own_knows line' p' station' passes grew abide tried = let a = abide c.number in record {
+      → (is_in p'.tried c.standing.number ≡ true → (station' c.standing.number).stage ≢ posted)
+      → Knows room r.n r.made line' (held_by c.standing.number p') station' id (Caller (record c { standing = record c.standing { passes = passes }; pass = Some p' }))
+  own_knows line' p' station' passes grew abide tried = let a = abide c.standing.number in record {
     number_made = knows.number_made;
     inside = knows.inside;
     seat_is = a.seat ∙ knows.seat_is;
     room_is = knows.room_is;
     own_is = knows.own_is ∙ sym a.own;
-    fronts = fronts_grow r.line line' c.seen c.told (left_start c.phase) grew knows.fronts;
-    pass_is = sym (pass_there c.number p');
-    phase = phase_abides c.number c.seen c.own (r.station c.number) (station' c.number) a c.phase knows.phase;
+    fronts = fronts_grow r.line line' c.standing.seen c.told (left_start c.standing.phase) grew knows.fronts;
+    pass_is = sym (pass_there c.standing.number p');
+    phase = phase_abides c.standing.number c.standing.seen c.standing.own (r.station c.standing.number) (station' c.standing.number) a c.standing.phase knows.phase;
     settled = record {
       done = λ e. a.done_stays (knows.settled.done e);
-      tried = λ q e t. let same : p' ≡ q = cc e in tried (ap (λ (z : Pass). is_in z.tried c.number) same ∙ t);
+      tried = λ q e t. let same : p' ≡ q = cc e in tried (ap (λ (z : Pass). is_in z.tried c.standing.number) same ∙ t);
     };
     notes = record {
       held_is = knows.notes.held_is ∙ sym a.held;
@@ -66,23 +67,23 @@ module _ (room : ℕ) (s : State Slot View) (r : Lawful room s) (id : ℕ) (c : 
   }
 
   pub others_stay : (line' : List Entry) (p' : Pass) (station' : ℕ → Station) → Begins r.line line' → ((m : ℕ) → Abides (r.station m) (station' m))
-      → (j : ℕ) → j ≢ id → (v : View) → Knows room r.n r.made r.line r.lock r.station j v → Knows room r.n r.made line' (held_by c.number p') station' j v
-  others_stay line' p' station' grew abide = others_know room r.n r.made r.line line' r.lock (held_by c.number p') r.station station' c.number id knows.seat_is grew
-      (λ i other. pass_elsewhere c.number i p' other ∙ sym (ap (λ l. pass_of l i) locked ∙ pass_elsewhere c.number i p other)) (λ i _. abide i) (λ m e. (abide m).held ∙ e)
+      → (j : ℕ) → j ≢ id → (v : View) → Knows room r.n r.made r.line r.lock r.station j v → Knows room r.n r.made line' (held_by c.standing.number p') station' j v
+  others_stay line' p' station' grew abide = others_know room r.n r.made r.line line' r.lock (held_by c.standing.number p') r.station station' c.standing.number id knows.seat_is grew
+      (λ i other. pass_elsewhere c.standing.number i p' other ∙ sym (ap (λ l. pass_of l i) locked ∙ pass_elsewhere c.standing.number i p other)) (λ i _. abide i) (λ m e. (abide m).held ∙ e)
 
   -- a step on the word and the slot of caller i, by the one that has the desk
   pub serve_step : (i x : ℕ) (y : maybe.Option Slot) (st : Station) (p' : Pass) → i < r.n → i < r.made → Abides (r.station i) st
-      → ((j : ℕ) → j ≢ i → part_of (held_by c.number p') j ≡ part_of (held_by c.number p) j) → CallerHolds room r.line (part_of (held_by c.number p') i) x (some y) i st → PassHolds r.n r.line p'
-      → (is_in p'.tried c.number ≡ true → (put r.station i st c.number).stage ≢ posted)
+      → ((j : ℕ) → j ≢ i → part_of (held_by c.standing.number p') j ≡ part_of (held_by c.standing.number p) j) → CallerHolds room r.line (part_of (held_by c.standing.number p') i) x (some y) i st → PassHolds r.n r.line p'
+      → (is_in p'.tried c.standing.number ≡ true → (put r.station i st c.standing.number).stage ≢ posted)
       → Lawful room (moved s i x y id (Caller (passing c p')))
   serve_step i x y st p' near made here parts caller pass tried =
       let abide = put_all_abide r.station i st here in
-      caller_step room s mine i x y st (held_by c.number p') id (Caller c) (Caller (passing c p')) near made there refl here.seat parts caller
+      caller_step room s mine i x y st (held_by c.standing.number p') id (Caller c) (Caller (passing c p')) near made there refl here.seat parts caller
       record { word_is = mine.lock_holds.word_is; inside = mine.lock_holds.inside; home_is = mine.lock_holds.home_is; pass = pass }
-      (own_knows r.line p' (put r.station i st) c.passes (begins_self r.line) abide tried)
-      (subst (λ l. (j : ℕ) → j ≢ id → (v : View) → Knows room r.n r.made r.line l r.station j v → Knows room r.n r.made r.line (held_by c.number p') (put r.station i st) j v) locked
+      (own_knows r.line p' (put r.station i st) c.standing.passes (begins_self r.line) abide tried)
+      (subst (λ l. (j : ℕ) → j ≢ id → (v : View) → Knows room r.n r.made r.line l r.station j v → Knows room r.n r.made r.line (held_by c.standing.number p') (put r.station i st) j v) locked
       (others_stay r.line p' (put r.station i st) (begins_self r.line) abide))
-      (holder_begins s.views (put r.station i st) id (Caller c) (passing c p') p' there ((abide c.number).seat ∙ knows.seat_is) refl)
+      (holder_begins s.views (put r.station i st) id (Caller c) (passing c p') p' there ((abide c.standing.number).seat ∙ knows.seat_is) refl)
 
   -- before the commit is the time to try words
   pub open_before : (i : ℕ) → i < r.n → is_in p.tried i ≡ false → p.committed ≡ false

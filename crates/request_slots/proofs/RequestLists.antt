@@ -1,16 +1,18 @@
 -- Requests taken, as plain lists: without those of a caller, with one more, and with each caller's once.
 -- `request_by-all_but` and `request_by-all_but_else` say what `all_but` leaves, `all_but_middle` that it takes one request out of distinct
--- ones; `orderly_tries`, `orderly_takes` and `strikes_middle` that a pass stays orderly.
-use Rattle.std.proofs.Common.{◌≡◌, ◌≢◌, ◌⊎◌, inl, inr, ℕ, Bool, true, false, cond, List, [], ◌∷◌, ◌++◌, ◌==◌, ◌||◌, Option, Some, None, refl, sym, ap, ◌∙◌, subst, arith, eq-eqb, ne_eqb}
+-- ones; `orderly_tries`, `orderly_takes` and `orderly_strikes` that a pass stays orderly, `marks_take` and `marks_strike` who is marked then.
+use Rattle.std.proofs.Common.{◌≡◌, ◌≢◌, ◌⊎◌, inl, inr, ℕ, ◌<◌, Bool, true, false, cond, List, [], ◌∷◌, ◌++◌, ◌==◌, ◌||◌, Option, Some, None, refl, sym, ap, ◌∙◌, subst, arith, eq-eqb, ne_eqb, get_or, set, length-set, get_or-set_same, get_or-set_other}
+use Rattle.std.specs.Prelude.{is_some, IsSome}
 use mathlib.Core.Logic.{dite}
 use native.Mathlib.Decide.{ℕ_discrete}
 use Rattle.cvl_text.specs.declared.call.Call.{Call}
 use Rattle.call_history.specs.declared.request.Request.{Request}
+use Rattle.call_history.specs.Callers.{caller_limit}
 use Rattle.call_history.specs.Fits.{request, request_by}
 use Rattle.call_history.proofs.Serving.{request_by-push_else}
 use Rattle.request_slots.specs.declared.known.Pass.{Pass}
 use Rattle.request_slots.specs.Passes.{is_in, tries, takes_on, all_but, strikes}
-use Rattle.request_slots.specs.Seating.{IsDistinct, IsOrderly}
+use Rattle.request_slots.specs.Seating.{IsDistinct, IsOrderly, IsMarked}
 
 pub request_by-all_but : (k : ℕ) (rs : List Request) → request_by k (all_but k rs) ≡ None
 request_by-all_but k [] = refl
@@ -96,22 +98,31 @@ untried-push (x ∷ xs) i k e = go (x == k) (untried-push xs i k) e
     go false later e = later e
 
 pub orderly_tries : (p : Pass) (i : ℕ) → IsOrderly p → IsOrderly (tries p i)
-orderly_tries p i o = record { untaken = λ k e. o.untaken k (untried-push p.tried i k e).0; distinct = o.distinct }
+orderly_tries p i o k e = o k (untried-push p.tried i k e).0
 
-pub orderly_takes : (p : Pass) (i : ℕ) (call : Call) → is_in p.tried i ≡ false → IsOrderly p → IsOrderly (takes_on p i call)
-orderly_takes p i call untried o = record {
-  untaken = λ k e. let t = untried-push p.tried i k e in request_by-push_else k i p.taken call t.1 ∙ o.untaken k t.0;
-  distinct = distinct-push p.taken i call o.distinct (o.untaken i untried);
+pub orderly_takes : (p : Pass) (i : ℕ) (call : Call) → IsOrderly p → IsOrderly (takes_on p i call)
+orderly_takes p i call o k e = let t = untried-push p.tried i k e in request_by-push_else k i p.taken call t.1 ∙ o k t.0
+
+pub orderly_strikes : (p : Pass) (i : ℕ) → IsOrderly p → IsOrderly (strikes p i)
+orderly_strikes p i o k e = dite (ℕ_discrete k i) (λ (is : k ≡ i). subst (λ (z : ℕ). request_by z (all_but i p.taken) ≡ None) (sym is) (request_by-all_but i p.taken))
+    (λ other. request_by-all_but_else k i p.taken other ∙ o k e)
+
+pub some_request : (asked : Option (List Call)) → IsSome asked → (calls : List Call) × (asked ≡ Some calls)
+some_request None is = absurd (cc is)
+some_request (Some calls) is = (calls, refl)
+
+-- the marks after a step at caller i, which alone they say otherwise
+marks_set : (marks : List Bool) (i : ℕ) (b : Bool) (rs rs' : List Request) → i < caller_limit → is_some (request_by i rs') ≡ b → ((k : ℕ) → k ≢ i → request_by k rs' ≡ request_by k rs)
+    → IsMarked marks rs → IsMarked (set marks i b) rs'
+marks_set marks i b rs rs' near here else marked = record {
+  long = length-set marks i b ∙ marked.long;
+  each = λ k lt. dite (ℕ_discrete k i)
+      (λ same. ap (λ (z : ℕ). get_or (set marks i b) z false) same ∙ (get_or-set_same marks i b false (let long = marked.long in omega arith) ∙ (sym here ∙ ap (λ (z : ℕ). is_some (request_by z rs')) (sym same))))
+      (λ other. get_or-set_other marks i k b false other ∙ (marked.each k lt ∙ ap is_some (sym (else k other))));
 }
 
-pub strikes_middle : (p : Pass) (i : ℕ) (earlier later : List Request) (call : Call) → IsOrderly p → p.taken ≡ earlier ++ request i call ∷ later → (all_but i p.taken ≡ earlier ++ later) × IsOrderly (strikes p i)
-strikes_middle p i earlier later call o there =
-    let left = all_but_middle earlier later i call (subst IsDistinct there o.distinct) in
-    let same : all_but i p.taken ≡ earlier ++ later = ap (all_but i) there ∙ left.0 in (
-      same,
-      record {
-        untaken = λ k e. dite (ℕ_discrete k i) (λ (is : k ≡ i). subst (λ (z : ℕ). request_by z (all_but i p.taken) ≡ None) (sym is) (request_by-all_but i p.taken))
-            (λ other. request_by-all_but_else k i p.taken other ∙ o.untaken k e);
-        distinct = subst IsDistinct (sym same) left.1;
-      },
-    )
+pub marks_take : (marks : List Bool) (i : ℕ) (call : Call) (rs : List Request) → i < caller_limit → IsMarked marks rs → IsMarked (set marks i true) (rs ++ request i call ∷ [])
+marks_take marks i call rs near marked = marks_set marks i true rs (rs ++ request i call ∷ []) near (ap is_some (middle_asks rs [] i call).1) (λ k other. request_by-push_else k i rs call other) marked
+
+pub marks_strike : (marks : List Bool) (i : ℕ) (rs : List Request) → i < caller_limit → IsMarked marks rs → IsMarked (set marks i false) (all_but i rs)
+marks_strike marks i rs near marked = marks_set marks i false rs (all_but i rs) near (ap is_some (request_by-all_but i rs)) (λ k other. request_by-all_but_else k i rs other) marked

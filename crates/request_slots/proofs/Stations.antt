@@ -20,7 +20,7 @@ use Rattle.request_slots.specs.Fronts.{FrontsBegin}
 use Rattle.request_slots.specs.Phases.{PhaseHolds, SettledHolds}
 use Rattle.request_slots.specs.Notes.{NotesHold}
 use Rattle.request_slots.specs.Lawful.{CallerKnows, Knows}
-use Rattle.request_slots.specs.Views.{left_start}
+use Rattle.request_slots.specs.Standing.{left_start}
 
 abbrev pick : {A P : Type 0} → Dec P → A → A → A
 pick (yes _) a b = a
@@ -124,11 +124,11 @@ caller_abides room n made line line' pass pass' s s' has_held has_held' seat c g
   seat_is = a.seat ∙ k.seat_is;
   room_is = k.room_is;
   own_is = k.own_is ∙ sym a.own;
-  fronts = fronts_grow line line' c.seen c.told (left_start c.phase) grows k.fronts;
+  fronts = fronts_grow line line' c.standing.seen c.told (left_start c.standing.phase) grows k.fronts;
   pass_is = k.pass_is ∙ sym same;
-  phase = phase_abides c.number c.seen c.own s s' a c.phase k.phase;
-  settled = settled_abides c.number c.settled c.pass s s' a k.settled;
-  notes = notes_rise n c.number c.held s.held s'.held c.met c.pass has_held has_held' a.held rises k.notes;
+  phase = phase_abides c.standing.number c.standing.seen c.standing.own s s' a c.standing.phase k.phase;
+  settled = settled_abides c.standing.number c.standing.settled c.pass s s' a k.settled;
+  notes = notes_rise n c.standing.number c.standing.held s.held s'.held c.standing.met c.pass has_held has_held' a.held rises k.notes;
 }
 
 -- A step by the caller k, whose seat is `me`: what each other seat knows stays
@@ -141,8 +141,8 @@ others_know room n made line line' lock lock' station station' k me mine grows p
     let apart : i ≢ k = λ e. other (sym h.seat_is ∙ (ap (λ (n : ℕ). (station n).seat) e ∙ mine)) in let a = abides i apart in
     record { number_made = h.number_made; seat_is = a.seat ∙ h.seat_is; room_is = h.room_is; stage_is = a.unmade_stays h.stage_is; not_held = a.held ∙ h.not_held }
 others_know room n made line line' lock lock' station station' k me mine grows passes abides rises j other (Caller c) h =
-    let apart : c.number ≢ k = λ e. other (sym h.seat_is ∙ (ap (λ (n : ℕ). (station n).seat) e ∙ mine)) in
-    caller_abides room n made line line' (pass_of lock c.number) (pass_of lock' c.number) (station c.number) (station' c.number) (λ m. (station m).held) (λ m. (station' m).held) j c
-    grows (passes c.number apart) (abides c.number apart) rises h
+    let apart : c.standing.number ≢ k = λ e. other (sym h.seat_is ∙ (ap (λ (n : ℕ). (station n).seat) e ∙ mine)) in
+    caller_abides room n made line line' (pass_of lock c.standing.number) (pass_of lock' c.standing.number) (station c.standing.number) (station' c.standing.number) (λ m. (station m).held) (λ m. (station' m).held) j c
+    grows (passes c.standing.number apart) (abides c.standing.number apart) rises h
 others_know room n made line line' lock lock' station station' k me mine grows passes abides rises j other (Bare seen) h = begins_trans seen line line' h grows
 others_know room n made line line' lock lock' station station' k me mine grows passes abides rises j other Spent h = tt

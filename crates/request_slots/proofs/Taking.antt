@@ -69,7 +69,7 @@ module _ (room : ℕ) (s : State Slot View) (r : Lawful room s) (id : ℕ) (c : 
       let open_yet = open_before room s r id c there p has i near untried in
       let before_is = pass.before_is open_yet in
       let caller = rule.each_caller i near in
-      let stage = subst (StageHolds room r.line (part_of (held_by c.number p) i) (get_elem? s.homes (i + 1)) i there') at_post caller.stage_holds in
+      let stage = subst (StageHolds room r.line (part_of (held_by c.standing.number p) i) (get_elem? s.homes (i + 1)) i there') at_post caller.stage_holds in
       serve_step room s r id c there p has i 3 none (staged there' taken) p' near (made_by_stage room s r i (λ e. let t : posted ≡ unmade = sym at_post ∙ e in absurd (cc t))) (abides_taken there' at_post)
       (λ j other. ap (λ (q : Option (List Call)). let z : Part = record { request = q; outcome = outcome_by j p.asked p.outcomes; before = p.before; committed = p.committed } in z) (request_by-push_else j i p.taken call other))
       record {
@@ -88,10 +88,10 @@ module _ (room : ℕ) (s : State Slot View) (r : Lawful room s) (id : ℕ) (c : 
         all_tried = λ e. absurd (cc (e, open_yet));
         of_callers = λ j far. request_by-push_else j i p.taken call (λ e. omega arith) ∙ pass.of_callers j far;
       }
-      (λ t. dite (ℕ_discrete c.number i)
+      (λ t. dite (ℕ_discrete c.standing.number i)
       (λ same e. let z : taken ≡ posted = ap (λ (z : Station). z.stage) (sym (put_here r.station i (staged there' taken)) ∙ ap (put r.station i (staged there' taken)) (sym same)) ∙ e in absurd (cc z))
-      (λ other e. ⊎_elim (λ (old : is_in p.tried c.number ≡ true). knows.settled.tried p has old (ap (λ (z : Station). z.stage) (sym (put_else r.station i (staged there' taken) c.number other)) ∙ e))
-      (λ (new : i ≡ c.number). other (sym new)) (is_in-push p.tried i c.number t)))
+      (λ other e. ⊎_elim (λ (old : is_in p.tried c.standing.number ≡ true). knows.settled.tried p has old (ap (λ (z : Station). z.stage) (sym (put_else r.station i (staged there' taken) c.standing.number other)) ∙ e))
+      (λ (new : i ≡ c.standing.number). other (sym new)) (is_in-push p.tried i c.standing.number t)))
 
   -- a try that found no request
   miss_keeps : (i : ℕ) → i < r.n → is_in p.tried i ≡ false → get_or s.words (i + 2) 0 ≢ 2 → Lawful room (seen_by s (i + 2) id (Caller (passing c (tries p i))))
@@ -100,16 +100,16 @@ module _ (room : ℕ) (s : State Slot View) (r : Lawful room s) (id : ℕ) (c : 
       let pass = holds_pass room s r id c there p has in
       let open_yet = open_before room s r id c there p has i near untried in
       let abide : (m : ℕ) → Abides (r.station m) (r.station m) = λ m. abides_self (r.station m) in
-      let seats = seats_after (Knows room r.n r.made r.line r.lock r.station) (Knows room r.n r.made r.line (held_by c.number p') r.station) s.views id (Caller (passing c p'))
-      (own_knows room s r id c there p has r.line p' r.station c.passes (begins_self r.line) abide
-      (λ t e. ⊎_elim (λ (old : is_in p.tried c.number ≡ true). knows.settled.tried p has old e)
-      (λ (new : i ≡ c.number). miss ((r.each_caller i near).word_is ∙ ap code (ap (λ (z : ℕ). (r.station z).stage) new ∙ e))) (is_in-push p.tried i c.number t)))
+      let seats = seats_after (Knows room r.n r.made r.line r.lock r.station) (Knows room r.n r.made r.line (held_by c.standing.number p') r.station) s.views id (Caller (passing c p'))
+      (own_knows room s r id c there p has r.line p' r.station c.standing.passes (begins_self r.line) abide
+      (λ t e. ⊎_elim (λ (old : is_in p.tried c.standing.number ≡ true). knows.settled.tried p has old e)
+      (λ (new : i ≡ c.standing.number). miss ((r.each_caller i near).word_is ∙ ap code (ap (λ (z : ℕ). (r.station z).stage) new ∙ e))) (is_in-push p.tried i c.standing.number t)))
       (others_stay room s r id c there p has r.line p' r.station (begins_self r.line) abide) r.each_seat in
       subst (λ (ws : List ℕ). Lawful room record { words = ws; homes = s.homes; views = set s.views id (Caller (passing c p')) }) (sym (set-get_or s.words (i + 2) 0)) record {
         n = r.n;
         made = r.made;
         line = r.line;
-        lock = held_by c.number p';
+        lock = held_by c.standing.number p';
         station = r.station;
         wide = r.wide;
         deep = r.deep;
@@ -128,7 +128,7 @@ module _ (room : ℕ) (s : State Slot View) (r : Lawful room s) (id : ℕ) (c : 
           };
         };
         holder_sits = holder_begins s.views r.station id (Caller c) (passing c p') p' there knows.seat_is refl;
-        sit_apart = seats_apart room r.n r.made r.line (held_by c.number p') r.station (set s.views id (Caller (passing c p'))) seats;
+        sit_apart = seats_apart room r.n r.made r.line (held_by c.standing.number p') r.station (set s.views id (Caller (passing c p'))) seats;
         made_sit = made_sit_after s.views r.station r.station r.made id (Caller c) (Caller (passing c p')) there refl (λ _. refl) r.made_sit;
         each_caller = rule.each_caller;
         each_seat = seats;

@@ -57,7 +57,7 @@ module _ (room : ℕ) (s : State Slot View) (r : Lawful room s) (id : ℕ) (c : 
       let pass = holds_pass room s r id c there p has in
       let caller = rule.each_caller i near in
       let at_taken = taken_by_request there'.stage there'.calls calls (sym asks ∙ caller.request_is) in
-      let stage = subst (StageHolds room r.line (part_of (held_by c.number p) i) (get_elem? s.homes (i + 1)) i there') at_taken caller.stage_holds in
+      let stage = subst (StageHolds room r.line (part_of (held_by c.standing.number p) i) (get_elem? s.homes (i + 1)) i there') at_taken caller.stage_holds in
       let told = subst (ServedHolds room r.line (outcome_by i p.asked p.outcomes) i there'.own there'.calls there'.start) over stage.served in
       let same : told.0 ≡ o = cc (told.1, has_told) in
       serve_step room s r id c there p has i 4 (some (Told o)) (staged there' done) p' near (made_by_stage room s r i (λ e. let t : taken ≡ unmade = sym at_taken ∙ e in absurd (cc t))) (abides_done there' at_taken)
@@ -78,7 +78,7 @@ module _ (room : ℕ) (s : State Slot View) (r : Lawful room s) (id : ℕ) (c : 
         all_tried = pass.all_tried;
         of_callers = λ j far. request_by-all_but_else j i p.taken (λ e. omega arith) ∙ pass.of_callers j far;
       }
-      (λ t e. knows.settled.tried p has t ((put_all_abide r.station i (staged there' done) (abides_done there' at_taken) c.number).posted_stood e))
+      (λ t e. knows.settled.tried p has t ((put_all_abide r.station i (staged there' done) (abides_done there' at_taken) c.standing.number).posted_stood e))
 
 pub tells : (room slots id i : ℕ) (calls : List Call) (old me : Sat) (o : Outcome) → me ≡ (old.0, (i + 1, Told o) ∷ rest old.1) → old.0 ≡ Caller (known_of old.0)
     → (known_of old.0).pass ≡ Some (pass_in (known_of old.0)) → i + 1 < slots → (pass_in (known_of old.0)).committed ≡ true → request_by i (pass_in (known_of old.0)).taken ≡ Some calls

@@ -25,7 +25,8 @@ use Rattle.request_slots.specs.Locks.{DeskRests}
 use Rattle.request_slots.specs.Requests.{request_at}
 use Rattle.request_slots.specs.Phases.{PhaseHolds}
 use Rattle.request_slots.specs.Lawful.{Knows, Lawful}
-use Rattle.request_slots.specs.Views.{known_of, left_in, pass_in, unlocking, IsSpare}
+use Rattle.request_slots.specs.Standing.{left_in}
+use Rattle.request_slots.specs.Views.{known_of, pass_in, unlocking, IsSpare}
 use Rattle.request_slots.specs.Events.{Sat, Unlocks}
 use Rattle.request_slots.proofs.Stations.{put, abides_self, others_know}
 use Rattle.request_slots.proofs.Holders.{lock_is, pass_elsewhere}
@@ -59,18 +60,18 @@ module _ (room : ℕ) (s : State Slot View) (r : Lawful room s) (id : ℕ) (c : 
   knows = r.each_seat id (Caller c) there
 
   abbrev here : Station
-  here = r.station c.number
+  here = r.station c.standing.number
 
-  inside : c.number < r.n
+  inside : c.standing.number < r.n
   inside = knows.inside
 
   -- what the caller knows once it has given the desk back
   unlock_knows : (p : Pass) → c.pass ≡ Some p → p.taken ≡ [] → Knows room r.n r.made r.line free r.station id (Caller (unlocking c p))
   unlock_knows p has all_told =
-      let locked = lock_is r.lock c.number p (sym has ∙ knows.pass_is) in
-      let r' = relocked room s r (held_by c.number p) locked in
+      let locked = lock_is r.lock c.standing.number p (sym has ∙ knows.pass_is) in
+      let r' = relocked room s r (held_by c.standing.number p) locked in
       let line_is : p.line ≡ r.line = r'.lock_holds.pass.line_is in
-      let mine = r'.each_caller c.number inside in
+      let mine = r'.each_caller c.standing.number inside in
       record {
         number_made = knows.number_made;
         inside = knows.inside;
@@ -79,13 +80,13 @@ module _ (room : ℕ) (s : State Slot View) (r : Lawful room s) (id : ℕ) (c : 
         own_is = knows.own_is;
         fronts = record { seen_begins = subst (λ l. Begins l r.line) (sym line_is) (begins_self r.line); told_begins = knows.fronts.told_begins; start_begins = knows.fronts.start_begins };
         pass_is = refl;
-        phase = subst (λ l. PhaseHolds c.number l c.own here c.phase) (sym line_is) (phase_along room s r id c knows);
+        phase = subst (λ l. PhaseHolds c.standing.number l c.standing.own here c.standing.phase) (sym line_is) (phase_along room s r id c knows);
         settled = record {
           done = λ e. ⊎_elim knows.settled.done
-              (λ (t : (left_in c.phase && is_in p.tried c.number) ≡ true). let both = both_true (left_in c.phase) (is_in p.tried c.number) t in
-              last_stage here.stage (phase_left c.number c.seen c.own here c.phase knows.phase both.0) (knows.settled.tried p has both.1)
-              (not_taken here.calls here.stage (sym (ap (request_by c.number) all_told) ∙ mine.request_is)))
-              (either_true c.settled (left_in c.phase && is_in p.tried c.number) e);
+              (λ (t : (is_in p.tried c.standing.number && left_in c.standing.phase) ≡ true). let both = both_true (is_in p.tried c.standing.number) (left_in c.standing.phase) t in
+              last_stage here.stage (phase_left c.standing.number c.standing.seen c.standing.own here c.standing.phase knows.phase both.1) (knows.settled.tried p has both.0)
+              (not_taken here.calls here.stage (sym (ap (request_by c.standing.number) all_told) ∙ mine.request_is)))
+              (either_true c.standing.settled (is_in p.tried c.standing.number && left_in c.standing.phase) e);
           tried = λ q e. absurd (cc e);
         };
         notes = record { held_is = knows.notes.held_is; holder_held = λ q e. absurd (cc e); others_held = knows.notes.others_held };
@@ -94,19 +95,19 @@ module _ (room : ℕ) (s : State Slot View) (r : Lawful room s) (id : ℕ) (c : 
   -- the desk goes home
   unlock_keeps : (p : Pass) (d : Box Desk) → c.pass ≡ Some p → p.taken ≡ [] → DeskRests room r.n p.line d.value → Lawful room (handed s 0 (some (Kept d)) id (Caller (unlocking c p)))
   unlock_keeps p d has all_told rests =
-      let locked = lock_is r.lock c.number p (sym has ∙ knows.pass_is) in
-      let r' = relocked room s r (held_by c.number p) locked in
+      let locked = lock_is r.lock c.standing.number p (sym has ∙ knows.pass_is) in
+      let r' = relocked room s r (held_by c.standing.number p) locked in
       let line_is : p.line ≡ r.line = r'.lock_holds.pass.line_is in
       let nothing : (k : ℕ) → request_by k p.taken ≡ None = λ k. ap (request_by k) all_told in
       lock_step room s r 0 (some (Kept d)) r.station free id (Caller c) (Caller (unlocking c p)) there refl (λ _. refl) r.not_made
       record { word_is = refl; desk = d; home_is = refl; rests = subst (λ l. DeskRests room r.n l d.value) line_is rests }
-      (λ k lt. part_free room r.line (part_of (held_by c.number p) k) (part_of free k) (get_or s.words (k + 2) 0) (get_elem? s.homes (k + 1)) k (r.station k) (r.station k).held (nothing k) refl (r'.each_caller k lt))
+      (λ k lt. part_free room r.line (part_of (held_by c.standing.number p) k) (part_of free k) (get_or s.words (k + 2) 0) (get_elem? s.homes (k + 1)) k (r.station k) (r.station k).held (nothing k) refl (r'.each_caller k lt))
       (unlock_knows p has all_told)
-      (others_know room r.n r.made r.line r.line r.lock free r.station r.station c.number id knows.seat_is (begins_self r.line)
-      (λ i other. sym (ap (λ l. pass_of l i) locked ∙ pass_elsewhere c.number i p other)) (λ i _. abides_self (r.station i)) (λ m e. e)) tt
+      (others_know room r.n r.made r.line r.line r.lock free r.station r.station c.standing.number id knows.seat_is (begins_self r.line)
+      (λ i other. sym (ap (λ l. pass_of l i) locked ∙ pass_elsewhere c.standing.number i p other)) (λ i _. abides_self (r.station i)) (λ m e. e)) tt
 
 pub unlocks : (room slots id : ℕ) (old me : Sat) (d : Box Desk) → me ≡ (old.0, (0, Kept d) ∷ rest old.1) → old.0 ≡ Caller (known_of old.0) → (known_of old.0).pass ≡ Some (pass_in (known_of old.0))
-    → (pass_in (known_of old.0)).taken ≡ [] → d.value.book.history ≡ (pass_in (known_of old.0)).line → d.value.book.room ≡ (known_of old.0).room → IsSpare slots d.value
+    → (pass_in (known_of old.0)).taken ≡ [] → d.value.book.history ≡ (pass_in (known_of old.0)).line → d.value.book.room ≡ (known_of old.0).standing.room → IsSpare slots d.value
     → Allows (Lawful room) slots id me 0 (λ _. 0) (λ _. Unlocks (step slots 0 0 0 none) me 0)
 unlocks room slots id old me d put is has all_told history_is room_is spare =
     subst (λ (m : Sat). Allows (Lawful room) slots id m 0 (λ _. 0) (λ _. Unlocks (step slots 0 0 0 none) m 0)) (sym put) go

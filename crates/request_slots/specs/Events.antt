@@ -1,7 +1,7 @@
 -- What each step tells the seat that makes it: of the step, the seat before, the number found at the word, and the seat after.
--- The seat is its view and the slots in its hand. The changes of the view are those of `Views`.
+-- The seat is its view and the slots in its hand. The changes of the view are those of `Views` and `Changes`.
 use Rattle.std.specs.Global.{Box}
-use Rattle.std.specs.Prelude.{◌≡◌, ◌≢◌, ℕ, false, List, [], ◌∷◌, length}
+use Rattle.std.specs.Prelude.{◌≡◌, ◌≢◌, ℕ, ◌-◌, false, List, [], ◌∷◌, length}
 use Rattle.atomic_table.specs.Table.{Me, Step, rest}
 use Rattle.cvl_text.specs.declared.call.Call.{Call}
 use Rattle.call_history.specs.declared.entry.Entry.{Entry}
@@ -11,12 +11,13 @@ use Rattle.call_history.specs.Fits.{fate_of}
 use Rattle.request_slots.specs.declared.desk.Desk.{Desk}
 use Rattle.request_slots.specs.declared.desk.Slot.{Slot}
 use Rattle.request_slots.specs.declared.desk.Slot.TheVariants.{Nothing, Asked, Told, Kept}
-use Rattle.request_slots.specs.declared.known.Known.{Known}
 use Rattle.request_slots.specs.declared.known.View.{View}
-use Rattle.request_slots.specs.declared.known.View.TheVariants.{Caller}
+use Rattle.request_slots.specs.declared.known.View.TheVariants.{Newcomer, Caller}
 use Rattle.request_slots.specs.Stages.{own_word, desk_slot, own_slot, idle, posted, done, code}
 use Rattle.request_slots.specs.Passes.{takes_on, tries, strikes}
-use Rattle.request_slots.specs.Views.{known_of, pass_in, left_calls, left_start, posting, locking, passing, committing, unlocking, looking, adopting, FrontHolds, Collected, Meets, ShowsLine, IsSpare}
+use Rattle.request_slots.specs.Standing.{Machine, Standing, newcomer, FrontHolds}
+use Rattle.request_slots.specs.Changes.{leaving_calls, seeing, Meets, ShowsLine, Collected}
+use Rattle.request_slots.specs.Views.{untold, with_standing, known_of, pass_in, locking, passing, committing, unlocking, adopting, IsSpare}
 
 -- a seat: its view, and the slots in its hand
 abbrev pub Sat : Type 0
@@ -35,21 +36,24 @@ calls_in_hand (x ∷ hand) = calls_in x.1
 
 -- a caller posts the calls that lie in its hand
 abbrev pub Posts : Step Slot → Sat → ℕ → Sat → Type 0
-Posts st m found m' = (found ≡ code idle) × (m'.0 ≡ Caller (posting (known_of m.0) (calls_in_hand m.1))) × (m'.1 ≡ rest m.1)
+Posts st m found m' =
+    (found ≡ code idle) × (m'.0 ≡ Caller (with_standing (known_of m.0) (leaving_calls (known_of m.0).standing (calls_in_hand m.1)))) × (m'.1 ≡ rest m.1)
 
 -- a caller takes its outcome, or finds none yet
 abbrev pub Collects : Step Slot → Sat → ℕ → Sat → Type 0
 Collects st m found m' =
-    (found ≡ code done → (o : Outcome) × (c' : Known) × (m'.0 ≡ Caller c') × (m'.1 ≡ (own_slot (known_of m.0).number, Told o) ∷ m.1)
-    × Collected (known_of m.0) (left_calls (known_of m.0).phase) (left_start (known_of m.0).phase) (fate_of o) c' × FrontHolds st.slots c')
-    × (found ≢ code done → (m' ≡ m) × ((known_of m.0).settled ≡ false))
+    (found ≡ code done → (o : Outcome) × (d : Standing) × (m'.0 ≡ Caller (with_standing (known_of m.0) d))
+    × (m'.1 ≡ (own_slot (known_of m.0).standing.number, Told o) ∷ m.1)
+    × Collected (known_of m.0).standing (fate_of o) d
+    × FrontHolds (st.slots - 1) d)
+    × (found ≢ code done → (m' ≡ m) × ((known_of m.0).standing.settled ≡ false))
 
 -- the desk is taken, or another caller is found to have it
 abbrev pub Locks : Step Slot → Sat → ℕ → Sat → Type 0
 Locks st m found m' =
-    (found ≡ 0 → (d : Box Desk) × IsSpare st.slots d.value × ShowsLine st.slots (known_of m.0) d.value.book
+    (found ≡ 0 → (d : Box Desk) × IsSpare st.slots d.value × ShowsLine (st.slots - 1) (known_of m.0).standing d.value.book
     × (m'.0 ≡ Caller (locking (known_of m.0) d.value.book.history)) × (m'.1 ≡ (desk_slot, Kept d) ∷ m.1))
-    × (found ≢ 0 → (c' : Known) × Meets st.slots (known_of m.0) c' × (m' ≡ (Caller c', m.1)))
+    × (found ≢ 0 → (d : Standing) × Meets (st.slots - 1) (known_of m.0).standing d × (m' ≡ (Caller (with_standing (known_of m.0) d), m.1)))
 
 -- the request of the caller of this word is taken, or its word only counts as tried
 abbrev pub Takes : Step Slot → Sat → ℕ → Sat → Type 0
@@ -77,20 +81,21 @@ Tells st m found m' = (i : ℕ) → st.word ≡ own_word i
 abbrev pub Unlocks : Step Slot → Sat → ℕ → Sat → Type 0
 Unlocks st m found m' =
     (m' ≡ (Caller (unlocking (known_of m.0) (pass_in (known_of m.0))), rest m.1))
-    × FrontHolds st.slots (unlocking (known_of m.0) (pass_in (known_of m.0)))
+    × FrontHolds (st.slots - 1) (unlocking (known_of m.0) (pass_in (known_of m.0))).standing
 
 -- the line so far is seen, and its length found
 abbrev pub Looks : Step Slot → Sat → ℕ → Sat → Type 0
 Looks st m found m' =
-    (line : List Entry) × (found ≡ length line) × Begins (known_of m.0).seen line
-    × (m' ≡ (Caller (looking (known_of m.0) line), m.1)) × FrontHolds st.slots (looking (known_of m.0) line)
+    (line : List Entry) × (found ≡ length line) × Begins (known_of m.0).standing.seen line
+    × (m' ≡ (Caller (with_standing (known_of m.0) (seeing (known_of m.0).standing line)), m.1))
+    × FrontHolds (st.slots - 1) (seeing (known_of m.0).standing line)
 
 -- the longer of what was seen and what was told begins with both
 abbrev pub Adopts : Step Slot → Sat → ℕ → Sat → Type 0
 Adopts st m found m' =
-    Begins (known_of m.0).seen (adopting (known_of m.0)).seen × Begins (known_of m.0).told (adopting (known_of m.0)).seen
-    × (m' ≡ (Caller (adopting (known_of m.0)), m.1)) × FrontHolds st.slots (adopting (known_of m.0))
+    Begins (known_of m.0).standing.seen (adopting (known_of m.0)).standing.seen × Begins (known_of m.0).told (adopting (known_of m.0)).standing.seen
+    × (m' ≡ (Caller (adopting (known_of m.0)), m.1)) × FrontHolds (st.slots - 1) (adopting (known_of m.0)).standing
 
--- a new caller is at its place, with its slot
-abbrev pub Arrives : Step Slot → Sat → ℕ → Sat → Type 0
-Arrives st m found m' = m' ≡ (Caller (known_of m.0), (own_slot (known_of m.0).number, Nothing) ∷ [])
+-- a new caller of this machine is at its place, with its slot
+abbrev pub Arrives : Machine → Step Slot → Sat → ℕ → Sat → Type 0
+Arrives machine st m found m' = (room k : ℕ) → m.0 ≡ Newcomer room k → m' ≡ (Caller (untold (newcomer machine room k)), (own_slot k, Nothing) ∷ [])

@@ -19,26 +19,26 @@ use Rattle.request_slots.specs.Locks.{LockHolds, HolderSits, SitApart, MadeSit}
 use Rattle.request_slots.specs.Requests.{CallerHolds}
 use Rattle.request_slots.specs.Phases.{PhaseHolds, SettledHolds}
 use Rattle.request_slots.specs.Notes.{NotesHold}
-use Rattle.request_slots.specs.Views.{left_start}
+use Rattle.request_slots.specs.Standing.{left_start}
 
 -- what holds of the seat of one caller, which stands at the station `mine` and has the view number `seat`
 pub record CallerKnows (room n made : ℕ) (line : List Entry) (pass : Option Pass) (mine : Station) (has_held : ℕ → Bool) (seat : ℕ) (c : Known) : Type 0 where
   -- the rule and the seat speak of one caller and one history
-  pub number_made : c.number < made
-  pub inside : c.number < n
+  pub number_made : c.standing.number < made
+  pub inside : c.standing.number < n
   pub seat_is : mine.seat ≡ seat
-  pub room_is : c.room ≡ room
-  pub own_is : c.own ≡ mine.own
+  pub room_is : c.standing.room ≡ room
+  pub own_is : c.standing.own ≡ mine.own
   -- 1. What it has seen begins the line (Fronts).
-  pub fronts : FrontsBegin line c.seen c.told (left_start c.phase)
+  pub fronts : FrontsBegin line c.standing.seen c.told (left_start c.standing.phase)
   -- 3. Its pass is the lock's for its number (Passes).
   pub pass_is : c.pass ≡ pass
   -- 5. Its phase is what its word says (Phases).
-  pub phase : PhaseHolds c.number c.seen c.own mine c.phase
+  pub phase : PhaseHolds c.standing.number c.standing.seen c.standing.own mine c.standing.phase
   -- 6. If it is settled, its outcome waits for it (Phases).
-  pub settled : SettledHolds c.number c.settled c.pass mine.stage
+  pub settled : SettledHolds c.standing.number c.standing.settled c.pass mine.stage
   -- 7. Its notes are true (Notes).
-  pub notes : NotesHold n c.number c.held mine.held c.met c.pass has_held
+  pub notes : NotesHold n c.standing.number c.standing.held mine.held c.standing.met c.pass has_held
 
 -- of the seat of a caller whose slot is still at home
 pub record NewcomerKnows (room made : ℕ) (mine : Station) (seat room' k : ℕ) : Type 0 where
@@ -53,7 +53,7 @@ abbrev pub Knows : ℕ → ℕ → ℕ → List Entry → Lock → (ℕ → Stat
 Knows room n made line lock station seat (Maker room' m) = (room' ≡ room) × (m ≡ made) × (seat ≡ 0)
 Knows room n made line lock station seat (Newcomer room' k) = NewcomerKnows room made (station k) seat room' k
 Knows room n made line lock station seat (Caller c) =
-    CallerKnows room n made line (pass_of lock c.number) (station c.number) (λ m. (station m).held) seat c
+    CallerKnows room n made line (pass_of lock c.standing.number) (station c.standing.number) (λ m. (station m).held) seat c
 Knows room n made line lock station seat (Bare seen) = Begins seen line
 Knows room n made line lock station seat Spent = Unit {0}
 

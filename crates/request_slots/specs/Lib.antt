@@ -1,6 +1,8 @@
 pub mod Stages
 pub mod Passes
 pub mod Fronts
+pub mod Standing
+pub mod Changes
 pub mod Locks
 pub mod Requests
 pub mod Phases

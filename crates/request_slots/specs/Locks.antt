@@ -56,13 +56,13 @@ LockHolds room n line word home (held_by h p) = HeldHolds n line word home h p
 abbrev pub HolderSits : List View → (ℕ → Station) → Lock → Type 0
 HolderSits views station free = Unit {0}
 HolderSits views station (held_by h p) =
-    (c : Known) × (get_elem? views (station h).seat ≡ some (Caller c)) × (c.number ≡ h) × (c.pass ≡ Some p)
+    (c : Known) × (get_elem? views (station h).seat ≡ some (Caller c)) × (c.standing.number ≡ h) × (c.pass ≡ Some p)
 
 -- the caller that a view is of
 abbrev pub sitter_of : View → Option ℕ
 sitter_of (Maker room k) = None
 sitter_of (Newcomer room k) = Some k
-sitter_of (Caller c) = Some c.number
+sitter_of (Caller c) = Some c.standing.number
 sitter_of (Bare seen) = None
 sitter_of Spent = None
 

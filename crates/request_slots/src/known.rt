@@ -3,6 +3,8 @@
 
 use call_history::{Entry, Outcome, Request};
 use cvl_text::Call;
+use std::convert::Infallible;
+use std::marker::Model;
 
 /// What the caller that has the desk knows of its pass.
 pub struct Pass {
@@ -28,27 +30,24 @@ pub enum Phase {
     Left([Call; 0], [Entry; 0]),
 }
 
+/// Where a caller stands: to a contract it is the record `Standing`, which also names the machine.
+pub struct CallerStanding {
+    never: Infallible,
+}
+
+impl Model for CallerStanding {
+    ghost use Rattle.request_slots.specs.Standing.{Standing};
+
+    ghost Value = { Standing };
+
+    ghost view = { λ s. elim s.never [ ] };
+}
+
 /// What a caller knows.
 pub struct Known {
-    /// The greatest number of items in the memory that the history leads to.
-    pub room: u64,
-    /// The number of the caller, from 0.
-    pub number: u64,
-    /// What it has seen of the history.
-    pub seen: [Entry; 0],
+    pub standing: CallerStanding,
     /// What another caller had seen when they met last.
     pub told: [Entry; 0],
-    /// Its answered calls, in order.
-    pub own: [Call; 0],
-    pub phase: Phase,
-    /// The call that it left was answered or refused, and waits for it.
-    pub settled: bool,
-    /// It has ever had the desk.
-    pub held: bool,
-    /// The callers that it found at the lock.
-    pub met: [u64; 0],
-    /// How many requests each of its commits had.
-    pub passes: [u64; 0],
     /// What it knows as the caller that has the desk.
     pub pass: Option<Pass>,
 }

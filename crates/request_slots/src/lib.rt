@@ -9,8 +9,10 @@
 //! and `step_unlock`. A caller that asks takes `step_post`, and `step_collect` until it is told.
 #![tactic(auto)]
 
+mod arrival;
 mod batch;
 mod desk;
+mod hand;
 mod known;
 mod places;
 mod plays;
@@ -21,6 +23,6 @@ mod steps;
 mod tests;
 
 pub use desk::Desk;
-pub use known::{Known, Pass, Phase};
+pub use known::{CallerStanding, Known, Pass, Phase};
 pub use seat::Seat;
 pub use slots::Slots;

@@ -2,7 +2,7 @@
 
 ghost use Rattle.request_slots.specs.declared.known.View.TheVariants.{Spent};
 ghost use Rattle.request_slots.specs.Views.{next_maker, next_caller, bare_view, sees_also};
-ghost use Rattle.request_slots.specs.Events.{Posts, Collects, Locks, Takes, Skips, Tells, Unlocks, Looks, Adopts, Arrives};
+ghost use Rattle.request_slots.specs.Events.{Posts, Collects, Locks, Takes, Skips, Tells, Unlocks, Looks, Adopts};
 
 use crate::desk::Slot;
 use crate::known::View;
@@ -60,12 +60,6 @@ pub(crate) struct Adopt;
 
 impl Play<Slot, View> for Adopt {
     ghost then = { Adopts };
-}
-
-pub(crate) struct Arrive;
-
-impl Play<Slot, View> for Arrive {
-    ghost then = { Arrives };
 }
 
 /// The maker's seat gives the next caller one.

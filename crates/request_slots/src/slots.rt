@@ -1,19 +1,23 @@
-ghost use Rattle.std.specs.Prelude.{◌≡◌, ◌≢◌, ℕ, ◌+◌, ◌<◌, ◌≤◌, [], ◌∷◌, All, IfSome, IfNone, IfOk, None, replicate};
+ghost use Rattle.std.specs.Prelude.{◌≡◌, ◌+◌, ◌<◌, ◌≤◌, [], ◌∷◌, All, map, IfSome, IfNone, IfOk, None, replicate};
 ghost use Rattle.atomic_table.specs.Seated.{TableId};
 ghost use Rattle.request_slots.specs.declared.desk.Slot.TheVariants.{Nothing, Kept};
 ghost use Rattle.request_slots.specs.declared.known.View.TheVariants.{Maker};
 ghost use Rattle.request_slots.specs.Lawful.{Lawful};
-ghost use Rattle.request_slots.specs.Views.{ShowsLine, IsSpare};
-ghost use Rattle.request_slots.specs.Seating.{seated_at, seats_of, IsNewSeatAt};
+ghost use Rattle.request_slots.specs.Standing.{callers_of, newcomer, newcomers};
+ghost use Rattle.request_slots.specs.Changes.{ShowsLine, FindsAnother};
+ghost use Rattle.request_slots.specs.Views.{untold, IsSpare};
+ghost use Rattle.request_slots.specs.Seating.{IsNewSeatAt};
 
+use crate::arrival::{Arrive, Place};
 use crate::desk::{Desk, Slot};
+use crate::hand::no_marks;
 use crate::known::View;
 use crate::places::{IDLE, UNMADE, slot_at, word_at};
-use crate::plays::{Arrive, Make};
+use crate::plays::Make;
 use crate::seat::Seat;
 use atomic_table::{Table, TableRule};
 use std::alloc::Global;
-use std::marker::Model;
+use std::marker::{Brand, Model};
 use vector_memory::OutOfMemory;
 
 /// The rule of the table, of which the key is the room.
@@ -49,7 +53,7 @@ impl Slots {
         requires empty { desk.value.book.history ≡ [] }
         requires spare { IsSpare (callers + 1) desk.value }
         ensures size { IfOk result (λ t. t.0.slots ≡ callers + 1) }
-        ensures seats { IfOk result (λ t. t.1.items ≡ seats_of t.0 desk.value.book.room callers) }
+        ensures seats { IfOk result (λ t. t.1.items ≡ map untold (newcomers t.0 desk.value.book.room callers)) }
         ensures each { IfOk result (λ t. All (IsNewSeatAt t.0) t.1.items) }
     {
         let room = desk.book.room();
@@ -69,11 +73,11 @@ impl Slots {
 
     /// The desk, unless the lock names another caller, which cannot be with one caller.
     pub fn close(self, mut seat: Seat) -> Option<Box<Desk>>
-        requires place { seat.table_id ≡ self }
-        requires no_desk { seat.known.pass ≡ None }
-        ensures line { IfSome result (λ d. ShowsLine self.slots seat.known d.value.book) }
-        ensures found { IfNone result ((h : ℕ) × (h ≢ seat.known.number) × (h + 1 < self.slots)) }
-        ensures inside { seat.known.number + 1 < self.slots }
+        requires place { seat.standing.machine ≡ self }
+        requires no_desk { seat.pass ≡ None }
+        ensures line { IfSome result (λ d. ShowsLine (callers_of self) seat.standing d.value.book) }
+        ensures found { IfNone result (FindsAnother seat.standing) }
+        ensures inside { seat.standing.number < callers_of self }
     {
         self.step_lock(&mut seat)
     }
@@ -89,15 +93,33 @@ impl Slots {
         requires size { (number + 1 < self.now.slots) × (self.now.slots ≤ 65) × (self.now.words ≡ self.now.slots + 1) }
         ensures place { maker.new.table_id ≡ self.now }
         ensures maker { maker.new.me ≡ (Maker room (number + 1), []) }
-        ensures seat { result ≡ seated_at self.now room number }
+        ensures seat { result ≡ untold (newcomer self.now room number) }
+    {
+        self.make_caller_at::<Brand>(maker, room, number)
+    }
+
+    fn make_caller_at<P: Place>(
+        &self,
+        maker: &mut atomic_table::Seat<Slot, View>,
+        room: u64,
+        number: usize,
+    ) -> Seat
+        requires machine { P.machine ≡ self.now }
+        requires place { maker.old.table_id ≡ self.now }
+        requires maker { maker.old.me ≡ (Maker room number, []) }
+        requires size { (number + 1 < self.now.slots) × (self.now.slots ≤ 65) × (self.now.words ≡ self.now.slots + 1) }
+        ensures place { maker.new.table_id ≡ self.now }
+        ensures maker { maker.new.me ≡ (Maker room (number + 1), []) }
+        ensures seat { result ≡ untold (newcomer P.machine room number) }
     {
         let shared = &self.table.shared;
         let mut seat = shared.split_seat::<Make>(maker);
-        shared.store::<Arrive>(&mut seat, word_at(number), IDLE);
+        shared.store::<Arrive<P>>(&mut seat, word_at(number), IDLE);
         Seat {
             seat,
             number,
             idle: true,
+            taken: no_marks(),
         }
     }
 }

@@ -1,5 +1,6 @@
 pub mod Chosen
 pub mod CutLists
+pub mod Joining
 pub mod Mapped
 pub mod NextSegment
 pub mod OneItem

@@ -8,7 +8,7 @@ use Rattle.std.proofs.lemmas.List.Concat.{flat_map-append}
 use Rattle.std.proofs.lemmas.List.FromFn.{map-range_with_len_more}
 use Rattle.std.proofs.lemmas.Slice.Zip.{length-zip, get_or-zip}
 use Rattle.scan_kernels.specs.Distributed.{distributed}
-use Rattle.scan_kernels.specs.Indexed.{item_at, indexed, segmented_index}
+use Rattle.scan_kernels.specs.Indexed.{index_at, indexed, segmented_index}
 use Rattle.scan_kernels.proofs.OneItem.{all_ones}
 
 flat_map-take_more : {X Y : Type 0} (f : X → List Y) (xs : List X) (i : ℕ) (d : X) → i < length xs → flat_map f (take (i + 1) xs) ≡ flat_map f (take i xs) ++ f (get_or xs i d)
@@ -44,9 +44,9 @@ segmented_index_all ls starts strides i h =
     let long = length-zip ls (zip starts strides) in ap (flat_map (λ p. indexed p.1.0 p.1.1 p.0)) (take_all i (zip ls (zip starts strides)) (omega arith))
 
 -- one more item of a segment
-pub indexed_push : (start stride : ℤ) (i : ℕ) → indexed start stride (i + 1) ≡ indexed start stride i ++ item_at start stride i ∷ []
+pub indexed_push : (start stride : ℤ) (i : ℕ) → indexed start stride (i + 1) ≡ indexed start stride i ++ index_at start stride i ∷ []
 unfolding indexed
-indexed_push start stride i = map-range_with_len_more (item_at start stride) 0 i i (zero-add i)
+indexed_push start stride i = map-range_with_len_more (index_at start stride) 0 i i (zero-add i)
 
 pub indexed_none : (start stride : ℤ) → indexed start stride 0 ≡ []
 unfolding indexed
@@ -80,17 +80,17 @@ distributed_each (suc n) (x ∷ xs) h = ap (λ l. x ∷ l) (distributed_each n x
 pub distributed-ones : {X : Type 0} (ls : List ℕ) (xs : List X) → All (λ l. l ≡ 1) ls → length ls ≡ length xs → distributed ls xs ≡ xs
 distributed-ones ls xs h same = ap (λ ks. distributed ks xs) (all_ones ls h) ∙ distributed_each (length ls) xs same
 
-pub indexed_one : (start stride : ℤ) → indexed start stride 1 ≡ item_at start stride 0 ∷ []
+pub indexed_one : (start stride : ℤ) → indexed start stride 1 ≡ index_at start stride 0 ∷ []
 unfolding indexed
 indexed_one start stride = refl
 
-indexed_each : (n : ℕ) (starts strides : List ℤ) → n ≡ length starts → n ≡ length strides → segmented_index (replicate n 1) starts strides ≡ map (λ p. item_at p.0 p.1 0) (zip starts strides)
+indexed_each : (n : ℕ) (starts strides : List ℤ) → n ≡ length starts → n ≡ length strides → segmented_index (replicate n 1) starts strides ≡ map (λ p. index_at p.0 p.1 0) (zip starts strides)
 indexed_each zero [] strides h also = refl
 indexed_each zero (s ∷ starts) strides h also = absurd (omega arith)
 indexed_each (suc n) [] strides h also = absurd (omega arith)
 indexed_each (suc n) (s ∷ starts) [] h also = absurd (omega arith)
 indexed_each (suc n) (s ∷ starts) (d ∷ strides) h also =
-    ap (λ l. l ++ segmented_index (replicate n 1) starts strides) (indexed_one s d) ∙ ap (λ l. item_at s d 0 ∷ l) (indexed_each n starts strides (omega arith) (omega arith))
+    ap (λ l. l ++ segmented_index (replicate n 1) starts strides) (indexed_one s d) ∙ ap (λ l. index_at s d 0 ∷ l) (indexed_each n starts strides (omega arith) (omega arith))
 
-pub segmented_index-ones : (ls : List ℕ) (starts strides : List ℤ) → All (λ l. l ≡ 1) ls → length ls ≡ length starts → length ls ≡ length strides → segmented_index ls starts strides ≡ map (λ p. item_at p.0 p.1 0) (zip starts strides)
+pub segmented_index-ones : (ls : List ℕ) (starts strides : List ℤ) → All (λ l. l ≡ 1) ls → length ls ≡ length starts → length ls ≡ length strides → segmented_index ls starts strides ≡ map (λ p. index_at p.0 p.1 0) (zip starts strides)
 segmented_index-ones ls starts strides h same also = ap (λ ks. segmented_index ks starts strides) (all_ones ls h) ∙ indexed_each (length ls) starts strides same also

@@ -1,10 +1,7 @@
-pub mod BooleanOps
-pub mod BooleanScans
 pub mod Distributed
 pub mod Elementwise
 pub mod Indexed
-pub mod IntegerOps
-pub mod IntegerScans
 pub mod Metering
+pub mod Parts
 pub mod Prefixes
 pub mod Segmented

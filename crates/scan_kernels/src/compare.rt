@@ -2,13 +2,14 @@
 
 ghost use Rattle.std.specs.Prelude.{◌≡◌, length, IfOk};
 ghost use Rattle.segment_desc.specs.Appended.{IsExact};
-ghost use Rattle.scan_kernels.specs.IntegerOps.{compares};
+ghost use Rattle.item_operations.specs.IntegerOps.{compares};
 ghost use Rattle.scan_kernels.specs.Elementwise.{item_by_item};
 ghost use Rattle.scan_kernels.specs.Metering.{CountsRun};
 
+use crate::choices::{by_comparison, by_name};
 use crate::execution::Execution;
 use crate::meter::Meter;
-use crate::operation::Cmp;
+use item_operations::Cmp;
 use segment_desc::OutOfMemory;
 use std::alloc::{AllocError, Global};
 
@@ -27,21 +28,19 @@ pub fn compare2(
     ensures exact { IfOk result (λ v. IsExact v) }
     ensures counted { CountsRun result meter.old meter.new }
 {
-    let made = match op {
-        Cmp::Eql => compared(alloc, Cmp::Eql, a, b)?,
-        Cmp::Neq => compared(alloc, Cmp::Neq, a, b)?,
-        Cmp::Les => compared(alloc, Cmp::Les, a, b)?,
-        Cmp::Leq => compared(alloc, Cmp::Leq, a, b)?,
-        Cmp::Grt => compared(alloc, Cmp::Grt, a, b)?,
-        Cmp::Geq => compared(alloc, Cmp::Geq, a, b)?,
-    };
+    let made = by_comparison!(op, compared(alloc, op, a, b)?);
     meter.raise();
     Ok(made)
 }
 
 // Inlined, so that the loop is built for each comparison that a caller names.
 #[inline(always)]
-fn compared(alloc: Global, op: Cmp, a: &[i64], b: &[i64]) -> Result<Vec<bool>, AllocError>
+pub(crate) fn compared(
+    alloc: Global,
+    op: Cmp,
+    a: &[i64],
+    b: &[i64],
+) -> Result<Vec<bool>, AllocError>
     requires { length a.now ≡ length b.now }
     ensures items { IfOk result (λ v. v.items ≡ item_by_item (compares op) a.now b.now) }
     ensures exact { IfOk result (λ v. IsExact v) }

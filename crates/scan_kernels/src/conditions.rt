@@ -1,7 +1,7 @@
 //! Tests of second operands, for a caller to make once before a kernel runs. They take no memory.
 
 ghost use Rattle.std.specs.Prelude.{◌↔◌, All, IsTrue};
-ghost use Rattle.scan_kernels.specs.IntegerOps.{IsDivisor, IsShift};
+ghost use Rattle.item_operations.specs.IntegerOps.{IsDivisor, IsShift};
 
 /// Whether `Z2::Div` and `Z2::Mod` take each of the integers: none is 0.
 pub fn divisors_ok(divisors: &[i64]) -> bool

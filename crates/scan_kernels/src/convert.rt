@@ -26,7 +26,7 @@ pub fn truth(
     Ok(made)
 }
 
-fn truths(alloc: Global, a: &[i64]) -> Result<Vec<bool>, AllocError>
+pub(crate) fn truths(alloc: Global, a: &[i64]) -> Result<Vec<bool>, AllocError>
     ensures items { IfOk result (λ v. v.items ≡ map is_true a.now) }
     ensures exact { IfOk result (λ v. IsExact v) }
 {
@@ -59,7 +59,7 @@ pub fn number(
     Ok(made)
 }
 
-fn numbers(alloc: Global, a: &[bool]) -> Result<Vec<i64>, AllocError>
+pub(crate) fn numbers(alloc: Global, a: &[bool]) -> Result<Vec<i64>, AllocError>
     ensures items { IfOk result (λ v. v.items ≡ map as_number a.now) }
     ensures exact { IfOk result (λ v. IsExact v) }
 {

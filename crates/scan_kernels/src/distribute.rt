@@ -50,7 +50,7 @@ pub fn distribute_b(
     Ok(made)
 }
 
-fn distribute<T: Copy + Send + Sync>(
+pub(crate) fn distribute<T: Copy + Send + Sync>(
     alloc: Global,
     values: &[T],
     lengths: &[usize],

@@ -4,7 +4,7 @@ ghost use Rattle.std.specs.Prelude.{◌≡◌, ◌+◌, ◌≤◌, length, map, 
 ghost use Rattle.std.specs.List.{zip};
 ghost use Rattle.segment_desc.specs.Lengths.{IsWithinLimits, most};
 ghost use Rattle.segment_desc.specs.Appended.{Appends, IsExact};
-ghost use Rattle.scan_kernels.specs.Indexed.{indexed, item_at, segmented_index};
+ghost use Rattle.scan_kernels.specs.Indexed.{indexed, index_at, segmented_index};
 ghost use Rattle.scan_kernels.specs.Metering.{CountsRun};
 
 use crate::execution::Execution;
@@ -34,7 +34,7 @@ pub fn index(
     Ok(made)
 }
 
-fn index_each(
+pub(crate) fn index_each(
     alloc: Global,
     starts: &[i64],
     strides: &[i64],
@@ -80,10 +80,10 @@ fn index_block(starts: &[i64], strides: &[i64], lengths: &[usize], made: &mut Ve
 fn index_singles(starts: &[i64], strides: &[i64], made: &mut Vec<i64>)
     requires same_length { length starts.now ≡ length strides.now }
     requires room { vec_len made.old + length starts.now ≤ vec_capacity made.old }
-    ensures { Appends made.old made.new (map (λ p. item_at p.0 p.1 0) (zip starts.now strides.now)) }
+    ensures { Appends made.old made.new (map (λ p. index_at p.0 p.1 0) (zip starts.now strides.now)) }
 {
     for j in 0..starts.len() {
-        made.push_reserved(item_at(starts[j], strides[j], 0));
+        made.push_reserved(index_at(starts[j], strides[j], 0));
     }
 }
 
@@ -101,21 +101,21 @@ fn index_segments(starts: &[i64], strides: &[i64], lengths: &[usize], made: &mut
 }
 
 #[inline(always)]
-fn index_segment(start: i64, stride: i64, length: usize, made: &mut Vec<i64>)
+pub(crate) fn index_segment(start: i64, stride: i64, length: usize, made: &mut Vec<i64>)
     requires room { vec_len made.old + length ≤ vec_capacity made.old }
     requires within { length ≤ most }
     ensures { Appends made.old made.new (indexed start stride length) }
 {
     for i in 0..length {
-        made.push_reserved(item_at(start, stride, i));
+        made.push_reserved(index_at(start, stride, i));
     }
 }
 
 #[inline(always)]
-#[tactic(auto, unfolding(crate::specs::Indexed::item_at))]
-fn item_at(start: i64, stride: i64, place: usize) -> i64
+#[tactic(auto, unfolding(crate::specs::Indexed::index_at))]
+fn index_at(start: i64, stride: i64, place: usize) -> i64
     requires { place ≤ most }
-    ensures { result ≡ item_at start stride place }
+    ensures { result ≡ index_at start stride place }
 {
     start.wrapping_add((place as i64).wrapping_mul(stride))
 }

@@ -1,10 +1,10 @@
 //! Laws of the definitions that the contracts cite: each function does nothing, and its contract is the law.
 
 ghost use Rattle.scan_kernels.specs.Prefixes.{ScansEach, ScansPrefixes};
-ghost use Rattle.scan_kernels.specs.IntegerScans.{combine_z, unit_z};
-ghost use Rattle.scan_kernels.specs.BooleanScans.{combine_b, unit_b};
+ghost use Rattle.item_operations.specs.IntegerScans.{combine_z, unit_z};
+ghost use Rattle.item_operations.specs.BooleanScans.{combine_b, unit_b};
 
-use crate::combine::{ScanB, ScanZ};
+use item_operations::{ScanB, ScanZ};
 
 /// A scan of integers has as many items as its operand, and item i of it is the reduction of the first i items.
 pub fn scans_reduce_prefixes_z(op: ScanZ)

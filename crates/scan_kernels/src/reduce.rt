@@ -1,19 +1,17 @@
 //! The reduction of each segment, one segment after another.
-//!
-//! Each arm of a choice names its operation, so that the inlined loop is built once for each operation, without a choice
-//! at each item.
 
 ghost use Rattle.std.specs.Prelude.{◌≡◌, ◌+◌, ◌≤◌, length, drop, map, sum, fold, vec_len, vec_capacity, IfOk};
 ghost use Rattle.segment_desc.specs.Appended.{Appends, IsExact};
 ghost use Rattle.scan_kernels.specs.Segmented.{segmented_reduce};
-ghost use Rattle.scan_kernels.specs.IntegerScans.{combine_z, unit_z};
-ghost use Rattle.scan_kernels.specs.BooleanScans.{combine_b, unit_b};
+ghost use Rattle.item_operations.specs.IntegerScans.{combine_z, unit_z};
+ghost use Rattle.item_operations.specs.BooleanScans.{combine_b, unit_b};
 ghost use Rattle.scan_kernels.specs.Metering.{CountsRun};
 
-use crate::combine::{Combine, ScanB, ScanZ};
+use crate::choices::{by_name, by_scan_b, by_scan_z};
 use crate::execution::Execution;
 use crate::meter::Meter;
 use crate::singles::{BLOCK, are_single};
+use item_operations::{Combine, ScanB, ScanZ};
 use segment_desc::{OutOfMemory, Segd};
 use std::alloc::{AllocError, Global};
 
@@ -33,15 +31,7 @@ pub fn reduce_z(
     ensures counted { CountsRun result meter.old meter.new }
 {
     let lengths = segments.lengths();
-    let made = match op {
-        ScanZ::Add => reduce(alloc, ScanZ::Add, items, lengths)?,
-        ScanZ::Mul => reduce(alloc, ScanZ::Mul, items, lengths)?,
-        ScanZ::Max => reduce(alloc, ScanZ::Max, items, lengths)?,
-        ScanZ::Min => reduce(alloc, ScanZ::Min, items, lengths)?,
-        ScanZ::And => reduce(alloc, ScanZ::And, items, lengths)?,
-        ScanZ::Ior => reduce(alloc, ScanZ::Ior, items, lengths)?,
-        ScanZ::Xor => reduce(alloc, ScanZ::Xor, items, lengths)?,
-    };
+    let made = by_scan_z!(op, reduce(alloc, op, items, lengths)?);
     meter.raise();
     Ok(made)
 }
@@ -62,17 +52,13 @@ pub fn reduce_b(
     ensures counted { CountsRun result meter.old meter.new }
 {
     let lengths = segments.lengths();
-    let made = match op {
-        ScanB::And => reduce(alloc, ScanB::And, items, lengths)?,
-        ScanB::Ior => reduce(alloc, ScanB::Ior, items, lengths)?,
-        ScanB::Xor => reduce(alloc, ScanB::Xor, items, lengths)?,
-    };
+    let made = by_scan_b!(op, reduce(alloc, op, items, lengths)?);
     meter.raise();
     Ok(made)
 }
 
 #[inline(always)]
-fn reduce<O: Combine>(
+pub(crate) fn reduce<O: Combine>(
     alloc: Global,
     op: O,
     items: &[O::Item],
@@ -144,7 +130,7 @@ fn reduce_each<'a, O: Combine>(
 
 #[inline(always)]
 #[tactic(auto, using(crate::proofs::Scanned::fold_push))]
-fn reduce_segment<O: Combine>(op: O, items: &[O::Item]) -> O::Item
+pub(crate) fn reduce_segment<O: Combine>(op: O, items: &[O::Item]) -> O::Item
     ensures { result ≡ fold (O.combined op) (O.unit_of op) items.now }
 {
     let mut so_far = op.unit();

@@ -1,20 +1,18 @@
 //! The exclusive scan of each segment, one segment after another.
-//!
-//! Each arm of a choice names its operation, so that the inlined loop is built once for each operation, without a choice
-//! at each item.
 
 ghost use Rattle.std.specs.Prelude.{◌≡◌, ◌+◌, ◌≤◌, ◌%◌, length, drop, sum, fold, vec_len, vec_capacity, IfOk};
 ghost use Rattle.segment_desc.specs.Appended.{Appends, IsExact};
 ghost use Rattle.scan_kernels.specs.Segmented.{scanned, segmented_scan};
-ghost use Rattle.scan_kernels.specs.IntegerScans.{combine_z, unit_z};
-ghost use Rattle.scan_kernels.specs.BooleanScans.{combine_b, unit_b};
+ghost use Rattle.item_operations.specs.IntegerScans.{combine_z, unit_z};
+ghost use Rattle.item_operations.specs.BooleanScans.{combine_b, unit_b};
 ghost use Rattle.scan_kernels.specs.Metering.{CountsRun};
 
-use crate::combine::{Combine, ScanB, ScanZ};
+use crate::choices::{by_name, by_scan_b, by_scan_z};
 use crate::execution::Execution;
 use crate::fill::repeat;
 use crate::meter::Meter;
 use crate::singles::{BLOCK, are_single};
+use item_operations::{Combine, ScanB, ScanZ};
 use segment_desc::{OutOfMemory, Segd};
 use std::alloc::{AllocError, Global};
 
@@ -34,15 +32,7 @@ pub fn scan_z(
     ensures counted { CountsRun result meter.old meter.new }
 {
     let lengths = segments.lengths();
-    let made = match op {
-        ScanZ::Add => scan(alloc, ScanZ::Add, items, lengths)?,
-        ScanZ::Mul => scan(alloc, ScanZ::Mul, items, lengths)?,
-        ScanZ::Max => scan(alloc, ScanZ::Max, items, lengths)?,
-        ScanZ::Min => scan(alloc, ScanZ::Min, items, lengths)?,
-        ScanZ::And => scan(alloc, ScanZ::And, items, lengths)?,
-        ScanZ::Ior => scan(alloc, ScanZ::Ior, items, lengths)?,
-        ScanZ::Xor => scan(alloc, ScanZ::Xor, items, lengths)?,
-    };
+    let made = by_scan_z!(op, scan(alloc, op, items, lengths)?);
     meter.raise();
     Ok(made)
 }
@@ -63,17 +53,13 @@ pub fn scan_b(
     ensures counted { CountsRun result meter.old meter.new }
 {
     let lengths = segments.lengths();
-    let made = match op {
-        ScanB::And => scan(alloc, ScanB::And, items, lengths)?,
-        ScanB::Ior => scan(alloc, ScanB::Ior, items, lengths)?,
-        ScanB::Xor => scan(alloc, ScanB::Xor, items, lengths)?,
-    };
+    let made = by_scan_b!(op, scan(alloc, op, items, lengths)?);
     meter.raise();
     Ok(made)
 }
 
 #[inline(always)]
-fn scan<O: Combine>(
+pub(crate) fn scan<O: Combine>(
     alloc: Global,
     op: O,
     items: &[O::Item],
@@ -134,7 +120,7 @@ fn scan_each<'a, O: Combine>(
 }
 
 #[inline(always)]
-fn scan_segment<O: Combine>(op: O, items: &[O::Item], made: &mut Vec<O::Item>)
+pub(crate) fn scan_segment<O: Combine>(op: O, items: &[O::Item], made: &mut Vec<O::Item>)
     requires room { vec_len made.old + length items.now ≤ vec_capacity made.old }
     ensures { Appends made.old made.new (scanned (O.combined op) (O.unit_of op) items.now) }
 {

@@ -52,7 +52,7 @@ pub fn select_b(
     Ok(truths)
 }
 
-fn chosen<T: Copy + Send + Sync>(
+pub(crate) fn chosen<T: Copy + Send + Sync>(
     alloc: Global,
     flags: &[bool],
     a: &[T],

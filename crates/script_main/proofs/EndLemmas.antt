@@ -15,7 +15,7 @@ use Rattle.call_history.specs.Callers.{calls_by}
 use Rattle.call_history.specs.Books.{BookState}
 use Rattle.call_history.proofs.Beginnings.{begins_trans}
 use Rattle.combiner.specs.Standing.{Machine, Standing, IsIdle, callers_of}
-use Rattle.script_main.specs.declared.fault.RunFault.{RunFault}
+use Rattle.script_lines.specs.declared.fault.RunFault.{RunFault}
 use Rattle.script_main.specs.declared.settled.Settled.{Settled}
 use Rattle.script_main.specs.declared.work.Worked.{Worked}
 use Rattle.script_main.specs.Settles.{IsSettled}

@@ -8,7 +8,7 @@ use Rattle.std.proofs.lemmas.Slice.Zip.{AllZip-long}
 use Rattle.std.proofs.lemmas.List.{length-map}
 use Rattle.cvl_text.specs.declared.call.Call.{Call}
 use Rattle.combiner.specs.Standing.{Machine, Standing, newcomer, newcomers, IsNewAt}
-use Rattle.script_main.specs.declared.fault.RunFault.{RunFault}
+use Rattle.script_lines.specs.declared.fault.RunFault.{RunFault}
 use Rattle.script_main.specs.declared.settled.Settled.{Settled}
 use Rattle.script_main.specs.declared.work.Worked.{Worked}
 use Rattle.script_main.specs.declared.threads.Job.{Job}

@@ -5,8 +5,8 @@ use Rattle.std.specs.List.{flat_map}
 use Rattle.std.proofs.lemmas.Grind.{flat_map-append}
 use Rattle.std.proofs.lemmas.List.{append-nil, take_more, map-append, length-take}
 use Rattle.cvl_text.specs.Answers.{Answer}
-use Rattle.script_main.specs.declared.fault.RunFault.{RunFault}
-use Rattle.script_main.specs.Scripts.{reply_line}
+use Rattle.script_lines.specs.declared.fault.RunFault.{RunFault}
+use Rattle.script_lines.specs.Scripts.{reply_line}
 use Rattle.script_main.specs.Reports.{Puts, replies_text}
 use Rattle.script_main.proofs.PutLemmas.{Puts-then, Puts-more}
 

@@ -1,11 +1,11 @@
 -- Texts that are put one behind another: `Puts-none`, `Puts-then`, `Puts-more` for a text that goes on where one stopped.
 use Rattle.std.proofs.Common.{◌≡◌, ℕ, List, [], ◌++◌, Option, Result, Ok, Err, refl, sym, ◌∙◌, subst, append_assoc}
 use Rattle.std.proofs.lemmas.List.{append-nil}
-use Rattle.script_main.specs.declared.fault.RunFault.{RunFault}
-use Rattle.script_main.specs.declared.fault.RunFault.TheVariants as stops
-use Rattle.script_main.specs.Streams.{Awaits, HasBegun}
+use Rattle.script_lines.specs.declared.fault.RunFault.{RunFault}
+use Rattle.script_lines.specs.declared.fault.RunFault.TheVariants as stops
+use Rattle.script_lines.specs.Streams.{Awaits, HasBegun}
 use Rattle.script_main.specs.Reports.{Puts, IsReportFault}
-use Rattle.script_main.proofs.StreamLemmas.{Awaits-start, Awaits-then, HasBegun-more, HasBegun-then}
+use Rattle.script_lines.proofs.StreamLemmas.{Awaits-start, Awaits-then, HasBegun-more, HasBegun-then}
 
 pub Puts-none : (waiting : List ℕ) (old : Option (List ℕ)) (writes : ℕ) → Puts (Ok tt) [] waiting waiting old old writes writes
 Puts-none waiting old writes = (subst (λ (t : List ℕ). Awaits old old waiting t) (sym (append-nil waiting)) (Awaits-start old waiting), refl)

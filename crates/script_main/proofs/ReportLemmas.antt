@@ -3,9 +3,9 @@
 use Rattle.std.proofs.Common.{◌≡◌, ℕ, true, List, [], ◌++◌, length, Option, Result, Ok, Err, OnOk, OnErr, sym, ◌∙◌, subst, append_assoc}
 use Rattle.cvl_text.specs.Answers.{Answer}
 use Rattle.call_history.specs.Books.{BookState, memory_of}
-use Rattle.script_main.specs.declared.fault.RunFault.{RunFault}
-use Rattle.script_main.specs.declared.fault.RunFault.TheVariants as stops
-use Rattle.script_main.specs.Streams.{Awaits, HasBegun}
+use Rattle.script_lines.specs.declared.fault.RunFault.{RunFault}
+use Rattle.script_lines.specs.declared.fault.RunFault.TheVariants as stops
+use Rattle.script_lines.specs.Streams.{Awaits, HasBegun}
 use Rattle.script_main.specs.Reports.{Puts, replies_text, memory_text, history_text, audit_text, report_text}
 use Rattle.script_main.proofs.PutLemmas.{Puts-nothing, Puts-then, Puts-more, Puts-behind}
 

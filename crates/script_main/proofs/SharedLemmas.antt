@@ -7,12 +7,12 @@ use Rattle.std.specs.Global.{Global}
 use Rattle.cvl_text.specs.declared.call.Call.{Call}
 use Rattle.cvl_text.specs.declared.reply.Reply.{Reply}
 use Rattle.call_history.specs.Books.{BookState}
-use Rattle.script_main.specs.declared.fault.RunFault.{RunFault}
-use Rattle.script_main.specs.declared.fault.RunFault.TheVariants as stops
-use Rattle.script_main.specs.Scripts.{lines_of}
-use Rattle.script_main.specs.Streams.{Awaits, HasBegun}
-use Rattle.script_main.specs.Runs.{IsCounted}
-use Rattle.script_main.specs.Readings.{lists_of, AreCallsOf}
+use Rattle.script_lines.specs.declared.fault.RunFault.{RunFault}
+use Rattle.script_lines.specs.declared.fault.RunFault.TheVariants as stops
+use Rattle.script_lines.specs.Scripts.{lines_of}
+use Rattle.script_lines.specs.Streams.{Awaits, HasBegun}
+use Rattle.script_lines.specs.Runs.{IsCounted}
+use Rattle.script_lines.specs.Readings.{lists_of, AreCallsOf}
 use Rattle.script_main.specs.Reports.{IsReportFault, answers_of, report_text}
 use Rattle.script_main.specs.Settles.{IsSettled}
 use Rattle.script_main.specs.SharedRuns.{IsReportOf, IsReadWhole, RunsShared}

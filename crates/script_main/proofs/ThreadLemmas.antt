@@ -6,7 +6,7 @@ use Rattle.std.specs.List.{AllZip}
 use Rattle.std.proofs.lemmas.Slice.Zip.{all_zipped_more}
 use Rattle.cvl_text.specs.declared.call.Call.{Call}
 use Rattle.combiner.specs.Standing.{Machine}
-use Rattle.script_main.specs.declared.fault.RunFault.{RunFault}
+use Rattle.script_lines.specs.declared.fault.RunFault.{RunFault}
 use Rattle.script_main.specs.declared.work.Worked.{Worked}
 use Rattle.script_main.specs.declared.threads.Job.{Job}
 use Rattle.script_main.specs.declared.threads.Started.{Started}

@@ -2,13 +2,13 @@
 use Rattle.std.specs.Prelude.{◌≡◌, ◌++◌, ◌<◌, ◌⊎◌, ℕ, List, [], ◌∷◌, Option, Result, Ok, Err, IfSome, codes}
 use Rattle.std.specs.Fmt.{decimal}
 use Rattle.vector_memory.specs.States.{empty, room_limit, IsLawfulRoom}
-use Rattle.script_main.specs.declared.fault.RunFault.{RunFault}
-use Rattle.script_main.specs.declared.fault.RunFault.TheVariants as stops
+use Rattle.script_lines.specs.declared.fault.RunFault.{RunFault}
+use Rattle.script_lines.specs.declared.fault.RunFault.TheVariants as stops
 use Rattle.script_main.specs.declared.mode.Mode.{Mode}
 use Rattle.script_main.specs.declared.mode.Mode.TheVariants.{Serial, Threads}
-use Rattle.script_main.specs.Runs.{Runs, IsCounted}
+use Rattle.script_lines.specs.Runs.{Runs, IsCounted}
 use Rattle.script_main.specs.SharedRuns.{RunsShared}
-use Rattle.script_main.specs.Streams.{Awaits, HasBegun}
+use Rattle.script_lines.specs.Streams.{Awaits, HasBegun}
 
 -- the word that asks for a mode
 abbrev pub mode_word : Mode → List ℕ

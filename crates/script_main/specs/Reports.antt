@@ -12,10 +12,10 @@ use Rattle.cvl_text.specs.declared.reply.Reply.{Reply}
 use Rattle.cvl_text.specs.Answers.{Answer, answer_of}
 use Rattle.cvl_text.specs.Texts.{value_text}
 use Rattle.call_history.specs.Books.{BookState, memory_of}
-use Rattle.script_main.specs.declared.fault.RunFault.{RunFault}
-use Rattle.script_main.specs.declared.fault.RunFault.TheVariants as stops
-use Rattle.script_main.specs.Scripts.{reply_line}
-use Rattle.script_main.specs.Streams.{Awaits, HasBegun}
+use Rattle.script_lines.specs.declared.fault.RunFault.{RunFault}
+use Rattle.script_lines.specs.declared.fault.RunFault.TheVariants as stops
+use Rattle.script_lines.specs.Scripts.{reply_line}
+use Rattle.script_lines.specs.Streams.{Awaits, HasBegun}
 
 -- the first name stands before the second: by the first byte that differs, and the shorter where one begins the other
 abbrev pub is_before : Name × Content → Name × Content → Bool

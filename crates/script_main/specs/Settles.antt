@@ -10,8 +10,8 @@ use Rattle.cvl_calls.specs.Steps.{stepped}
 use Rattle.call_history.specs.declared.entry.Entry.{Entry}
 use Rattle.call_history.specs.Callers.{calls_by}
 use Rattle.call_history.specs.Books.{BookState}
-use Rattle.script_main.specs.declared.fault.RunFault.{RunFault}
-use Rattle.script_main.specs.declared.fault.RunFault.TheVariants as stops
+use Rattle.script_lines.specs.declared.fault.RunFault.{RunFault}
+use Rattle.script_lines.specs.declared.fault.RunFault.TheVariants as stops
 use Rattle.script_main.specs.Gates.{MayStopFirst}
 use Rattle.script_main.specs.Reports.{answers_of}
 

@@ -12,8 +12,8 @@ use Rattle.call_history.specs.Callers.{calls_by}
 use Rattle.call_history.specs.Books.{BookState}
 use Rattle.combiner.specs.Standing.{Machine, Standing, IsIdle, callers_of}
 use Rattle.combiner.specs.Says.{seeing}
-use Rattle.script_main.specs.declared.fault.RunFault.{RunFault}
-use Rattle.script_main.specs.declared.fault.RunFault.TheVariants as stops
+use Rattle.script_lines.specs.declared.fault.RunFault.{RunFault}
+use Rattle.script_lines.specs.declared.fault.RunFault.TheVariants as stops
 use Rattle.script_main.specs.declared.work.Worked.{Worked}
 use Rattle.script_main.specs.declared.threads.Job.{Job}
 use Rattle.script_main.specs.declared.threads.Started.{Started}

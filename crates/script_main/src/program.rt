@@ -4,15 +4,12 @@ ghost use Rattle.std.specs.Prelude.{◌≡◌, ℕ, map, string_bytes, IfSome, M
 ghost use Rattle.std.specs.Fmt.{decimal};
 ghost use Rattle.vector_memory.specs.States.{IsLawfulRoom};
 ghost use Rattle.script_main.specs.declared.mode.Mode.{Mode};
-ghost use Rattle.script_main.specs.Runs.{IsCounted};
+ghost use Rattle.script_lines.specs.Runs.{IsCounted};
 ghost use Rattle.script_main.specs.Programs.{mode_word, AsksRoom, AsksRun, AsksNothing, RunsAs, HasRun, IsUsage, status_of};
 
-use crate::fault::RunFault;
 use crate::mode::Mode;
-use crate::run::Run;
-use crate::serial::run_script;
 use crate::shared::run_shared;
-use crate::streams::{Sink, Source, write_all};
+use script_lines::{Run, RunFault, Sink, Source, run_script, write_all};
 use std::alloc::Global;
 use std::mem;
 use std::sync::Wait;

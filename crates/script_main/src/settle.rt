@@ -6,11 +6,11 @@ ghost use Rattle.combiner.specs.Standing.{callers_of, newcomers, IsIdle};
 ghost use Rattle.script_main.specs.Settles.{IsSettled};
 ghost use Rattle.script_main.specs.Workers.{reply_count, IsFirstFault, HaveMet, IsClosed, AreEnds, AllWorked, IsSettleFault};
 
-use crate::fault::RunFault;
 use crate::settled::Settled;
 use crate::work::Worked;
 use combiner::{Caller, Shared};
 use cvl_text::Reply;
+use script_lines::RunFault;
 use segment_desc::OutOfMemory;
 use std::alloc::Global;
 

@@ -3,17 +3,14 @@
 ghost use Rattle.std.specs.Prelude.{◌≡◌, ◌<◌, ◌≤◌, ℕ, Err, OnOk, IfOk, IfSome, vec_len};
 ghost use Rattle.vector_memory.specs.States.{IsLawfulRoom};
 ghost use Rattle.call_history.specs.Callers.{caller_limit};
-ghost use Rattle.script_main.specs.Runs.{IsCounted};
+ghost use Rattle.script_lines.specs.Runs.{IsCounted};
 ghost use Rattle.script_main.specs.SharedRuns.{IsReadWhole, RunsShared};
 
-use crate::fault::RunFault;
 use crate::gate::Open;
 use crate::report::write_report;
-use crate::run::write_bad_line;
-use crate::script::read_script;
-use crate::streams::{Sink, Source};
 use crate::threads::run_threads;
 use cvl_text::Call;
+use script_lines::{RunFault, Sink, Source, read_script, write_bad_line};
 use std::alloc::Global;
 use std::sync::Wait;
 use std::thread::Threads;

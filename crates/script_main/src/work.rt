@@ -4,10 +4,10 @@ ghost use Rattle.std.specs.Prelude.{true, ◌≡◌, OnOk, IfOk, IfErr, length};
 ghost use Rattle.combiner.specs.Standing.{IsIdle, IsNewAt};
 ghost use Rattle.script_main.specs.Workers.{GoesOn, IsTurnFault, IsEnd, IsGated};
 
-use crate::fault::RunFault;
 use crate::gate::Gate;
 use combiner::{Caller, Shared};
 use cvl_text::{Call, Reply};
+use script_lines::RunFault;
 use std::alloc::Global;
 use std::sync::Wait;
 use std::thread::Threads;

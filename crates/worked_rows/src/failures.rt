@@ -1,7 +1,8 @@
 //! A reader that fails at each call, and a writer that fails after each byte, on a script of five lines.
 
 use crate::program::{run, run_on, writer};
-use crate::streams::{Full, Pieces};
+use crate::streams::{Full, Interrupted, Pieces};
+use script_main::{ReadSource, WriteSink, run_serial};
 use std::test::Fail;
 
 const SCRIPT: &[u8] = b"0: a = z 1 2\n# five lines\n1: a = add_wuz a a\n2: get a\n3: get b\n";
@@ -93,5 +94,26 @@ fn bad_line_before_a_failed_read(rt: HostRuntime) -> Result<(), Fail> {
         writer(&rt, 1000, 1000, Full::Fails),
     )?;
     assert!(rt; ran.text.as_slice() == b"bad line 1\n".as_slice() && ran.status == 2);
+    Ok(())
+}
+
+/// A read or a write that a signal interrupts is made again, and nothing is lost.
+#[test]
+fn goes_on_behind_signals(rt: HostRuntime) -> Result<(), Fail> {
+    let mut source = ReadSource::new(Interrupted {
+        stream: Pieces {
+            bytes: SCRIPT,
+            step: 7,
+            fails: None,
+        },
+        passes: false,
+    });
+    let mut short = writer(&rt, 3, 1000, Full::Fails);
+    let mut sink = WriteSink::new(Interrupted {
+        stream: &mut short,
+        passes: false,
+    });
+    assert!(rt; run_serial(&rt, rt.alloc(), 100, &mut source, &mut sink) == Ok(()));
+    assert!(rt; short.taken == text_of_lines(&rt, SCRIPT.len())?);
     Ok(())
 }

@@ -55,3 +55,34 @@ impl Write for Short {
         Ok(())
     }
 }
+
+/// A stream at which signals interrupt each other call.
+#[derive(Drop)]
+pub struct Interrupted<S> {
+    pub stream: S,
+    pub passes: bool,
+}
+
+impl Read for Interrupted<Pieces<'_>> {
+    fn read(&mut self, buffer: &mut [u8]) -> io::Result<usize> {
+        self.passes = !self.passes;
+        if self.passes {
+            return Err(io::Error::from(ErrorKind::Interrupted));
+        }
+        self.stream.read(buffer)
+    }
+}
+
+impl Write for Interrupted<&mut Short> {
+    fn write(&mut self, bytes: &[u8]) -> io::Result<usize> {
+        self.passes = !self.passes;
+        if self.passes {
+            return Err(io::Error::from(ErrorKind::Interrupted));
+        }
+        self.stream.write(bytes)
+    }
+
+    fn flush(&mut self) -> io::Result<()> {
+        Ok(())
+    }
+}

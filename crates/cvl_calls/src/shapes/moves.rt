@@ -1,12 +1,12 @@
 //! Items moved to the places of an index, or read from them.
 
-ghost use Rattle.std.specs.Prelude.{◌≡◌, IfOk, true};
+ghost use Rattle.std.specs.Prelude.{true};
 ghost use Rattle.vector_memory.specs.States.{value_at};
 ghost use Rattle.cvl_text.specs.declared.word.ThreeWord.TheVariants as threes;
 ghost use Rattle.cvl_text.specs.declared.word.TwoWord.TheVariants as twos;
 ghost use Rattle.cvl_text.specs.declared.word.Word.TheVariants as words;
-ghost use Rattle.cvl_calls.specs.Judging.{IsReady, made, word_of};
-ghost use Rattle.cvl_calls.specs.Outcomes.{GivesBy, Held, viewed};
+ghost use Rattle.cvl_calls.specs.Judging.{Judges, JudgesBy};
+ghost use Rattle.cvl_calls.specs.Outcomes.{Held};
 ghost use Rattle.cvl_calls.specs.Work.{gather, gather_segments, permute, permute_segments};
 
 use crate::conditions::{
@@ -28,9 +28,7 @@ pub(crate) fn permute<'a>(
     a: &Name,
     i: &Name,
 ) -> Result<Judged<'a>, Stop>
-    ensures gives { GivesBy true made result (permute kind (Held (value_at memory.now a.now)) (Held (value_at memory.now i.now))) }
-    ensures word { IfOk result (λ judged. word_of judged ≡ words.Two (twos.Smp kind)) }
-    ensures ready { IfOk result IsReady }
+    ensures { JudgesBy true (words.Two (twos.Smp kind)) (permute kind (Held (value_at memory.now a.now)) (Held (value_at memory.now i.now))) result }
 {
     let xs = items(memory, kind, a)?;
     let places = ints(memory, i)?;
@@ -49,9 +47,7 @@ pub(crate) fn permute_segments<'a>(
     i: &Name,
     s: &Name,
 ) -> Result<Judged<'a>, Stop>
-    ensures gives { GivesBy true made result (permute_segments kind (Held (value_at memory.now a.now)) (Held (value_at memory.now i.now)) (Held (value_at memory.now s.now))) }
-    ensures word { IfOk result (λ judged. word_of judged ≡ words.Three (threes.SmpSeg kind)) }
-    ensures ready { IfOk result IsReady }
+    ensures { JudgesBy true (words.Three (threes.SmpSeg kind)) (permute_segments kind (Held (value_at memory.now a.now)) (Held (value_at memory.now i.now)) (Held (value_at memory.now s.now))) result }
 {
     let xs = items(memory, kind, a)?;
     let places = ints(memory, i)?;
@@ -70,9 +66,7 @@ pub(crate) fn gather<'a>(
     a: &Name,
     i: &Name,
 ) -> Result<Judged<'a>, Fault>
-    ensures gives { viewed made result ≡ gather kind (Held (value_at memory.now a.now)) (Held (value_at memory.now i.now)) }
-    ensures word { IfOk result (λ judged. word_of judged ≡ words.Two (twos.Bck kind)) }
-    ensures ready { IfOk result IsReady }
+    ensures { Judges (words.Two (twos.Bck kind)) (gather kind (Held (value_at memory.now a.now)) (Held (value_at memory.now i.now))) result }
 {
     let xs = items(memory, kind, a)?;
     let places = ints(memory, i)?;
@@ -90,9 +84,7 @@ pub(crate) fn gather_segments<'a>(
     i: &Name,
     t: &Name,
 ) -> Result<Judged<'a>, Fault>
-    ensures gives { viewed made result ≡ gather_segments kind (Held (value_at memory.now a.now)) (Held (value_at memory.now s.now)) (Held (value_at memory.now i.now)) (Held (value_at memory.now t.now)) }
-    ensures word { IfOk result (λ judged. word_of judged ≡ words.BckSeg kind) }
-    ensures ready { IfOk result IsReady }
+    ensures { Judges (words.BckSeg kind) (gather_segments kind (Held (value_at memory.now a.now)) (Held (value_at memory.now s.now)) (Held (value_at memory.now i.now)) (Held (value_at memory.now t.now))) result }
 {
     let xs = items(memory, kind, a)?;
     let source = segs(memory, s)?;

@@ -1,12 +1,11 @@
 //! The items whose flag is set, and how many there are.
 
-ghost use Rattle.std.specs.Prelude.{◌≡◌, IfOk};
 ghost use Rattle.vector_memory.specs.States.{value_at};
 ghost use Rattle.cvl_text.specs.declared.word.ThreeWord.TheVariants as threes;
 ghost use Rattle.cvl_text.specs.declared.word.TwoWord.TheVariants as twos;
 ghost use Rattle.cvl_text.specs.declared.word.Word.TheVariants as words;
-ghost use Rattle.cvl_calls.specs.Judging.{IsReady, made, word_of};
-ghost use Rattle.cvl_calls.specs.Outcomes.{Held, viewed};
+ghost use Rattle.cvl_calls.specs.Judging.{Judges};
+ghost use Rattle.cvl_calls.specs.Outcomes.{Held};
 ghost use Rattle.cvl_calls.specs.Work.{pack, pack_lengths, pack_segments};
 
 use crate::conditions::{has_all, same_length};
@@ -23,9 +22,7 @@ pub(crate) fn pack<'a>(
     a: &Name,
     f: &Name,
 ) -> Result<Judged<'a>, Fault>
-    ensures gives { viewed made result ≡ pack kind (Held (value_at memory.now a.now)) (Held (value_at memory.now f.now)) }
-    ensures word { IfOk result (λ judged. word_of judged ≡ words.Two (twos.Pck kind)) }
-    ensures ready { IfOk result IsReady }
+    ensures { Judges (words.Two (twos.Pck kind)) (pack kind (Held (value_at memory.now a.now)) (Held (value_at memory.now f.now))) result }
 {
     let xs = items(memory, kind, a)?;
     let flags = bools(memory, f)?;
@@ -42,9 +39,7 @@ pub(crate) fn pack_segments<'a>(
     f: &Name,
     s: &Name,
 ) -> Result<Judged<'a>, Fault>
-    ensures gives { viewed made result ≡ pack_segments kind (Held (value_at memory.now a.now)) (Held (value_at memory.now f.now)) (Held (value_at memory.now s.now)) }
-    ensures word { IfOk result (λ judged. word_of judged ≡ words.Three (threes.PckSeg kind)) }
-    ensures ready { IfOk result IsReady }
+    ensures { Judges (words.Three (threes.PckSeg kind)) (pack_segments kind (Held (value_at memory.now a.now)) (Held (value_at memory.now f.now)) (Held (value_at memory.now s.now))) result }
 {
     let xs = items(memory, kind, a)?;
     let flags = bools(memory, f)?;
@@ -57,9 +52,7 @@ pub(crate) fn pack_segments<'a>(
 #[tactic(auto, unfolding(crate::specs::Work::pack_lengths))]
 #[inline(always)]
 pub(crate) fn pack_lengths<'a>(memory: &'a Memory, f: &Name, s: &Name) -> Result<Judged<'a>, Fault>
-    ensures gives { viewed made result ≡ pack_lengths (Held (value_at memory.now f.now)) (Held (value_at memory.now s.now)) }
-    ensures word { IfOk result (λ judged. word_of judged ≡ words.Two twos.Pkl) }
-    ensures ready { IfOk result IsReady }
+    ensures { Judges (words.Two twos.Pkl) (pack_lengths (Held (value_at memory.now f.now)) (Held (value_at memory.now s.now))) result }
 {
     let flags = bools(memory, f)?;
     let segments = segs(memory, s)?;

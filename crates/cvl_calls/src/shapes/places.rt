@@ -4,7 +4,7 @@ ghost use Rattle.std.specs.Prelude.{◌≡◌, ◌<◌, pos, IfOk};
 ghost use Rattle.vector_memory.specs.States.{value_at};
 ghost use Rattle.cvl_text.specs.declared.word.Word.TheVariants as words;
 ghost use Rattle.cvl_calls.specs.Conditions.{is_place};
-ghost use Rattle.cvl_calls.specs.Judging.{IsReady, made, word_of};
+ghost use Rattle.cvl_calls.specs.Judging.{Judges};
 ghost use Rattle.cvl_calls.specs.Outcomes.{Held, NumberGiven, check, viewed};
 ghost use Rattle.cvl_calls.specs.Work.{extract, replace};
 
@@ -16,9 +16,7 @@ use vector_memory::{Memory, Name};
 #[tactic(auto, unfolding(crate::specs::Work::extract))]
 #[inline(always)]
 pub(crate) fn extract<'a>(memory: &'a Memory, a: &Name, p: i64) -> Result<Judged<'a>, Fault>
-    ensures gives { viewed made result ≡ extract (Held (value_at memory.now a.now)) (NumberGiven p) }
-    ensures word { IfOk result (λ judged. word_of judged ≡ words.Ext) }
-    ensures ready { IfOk result IsReady }
+    ensures { Judges words.Ext (extract (Held (value_at memory.now a.now)) (NumberGiven p)) result }
 {
     let xs = ints(memory, a)?;
     let place = place_in(p, xs.len())?;
@@ -28,9 +26,7 @@ pub(crate) fn extract<'a>(memory: &'a Memory, a: &Name, p: i64) -> Result<Judged
 #[tactic(auto, unfolding(crate::specs::Work::replace))]
 #[inline(always)]
 pub(crate) fn replace<'a>(memory: &'a Memory, a: &Name, p: i64, x: i64) -> Result<Judged<'a>, Fault>
-    ensures gives { viewed made result ≡ replace (Held (value_at memory.now a.now)) (NumberGiven p) (NumberGiven x) }
-    ensures word { IfOk result (λ judged. word_of judged ≡ words.Rep) }
-    ensures ready { IfOk result IsReady }
+    ensures { Judges words.Rep (replace (Held (value_at memory.now a.now)) (NumberGiven p) (NumberGiven x)) result }
 {
     let xs = ints(memory, a)?;
     let place = place_in(p, xs.len())?;

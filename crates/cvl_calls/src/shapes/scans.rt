@@ -1,16 +1,15 @@
 //! Scans and reductions, of all items or of each segment.
 
-ghost use Rattle.std.specs.Prelude.{◌≡◌, IfOk};
-ghost use Rattle.scan_kernels.specs.BooleanScans.{combine_b, unit_b};
-ghost use Rattle.scan_kernels.specs.IntegerScans.{combine_z, unit_z};
+ghost use Rattle.item_operations.specs.BooleanScans.{combine_b, unit_b};
+ghost use Rattle.item_operations.specs.IntegerScans.{combine_z, unit_z};
 ghost use Rattle.vector_memory.specs.States.{value_at};
 ghost use Rattle.cvl_text.specs.declared.word.AskWord.TheVariants as asks;
 ghost use Rattle.cvl_text.specs.declared.word.OneWord.TheVariants as ones;
 ghost use Rattle.cvl_text.specs.declared.word.TwoWord.TheVariants as twos;
 ghost use Rattle.cvl_text.specs.declared.word.Word.TheVariants as words;
-ghost use Rattle.cvl_calls.specs.Judging.{IsReady, made, word_of};
+ghost use Rattle.cvl_calls.specs.Judging.{Judges};
 ghost use Rattle.cvl_calls.specs.Operands.{integers, truths};
-ghost use Rattle.cvl_calls.specs.Outcomes.{Held, viewed};
+ghost use Rattle.cvl_calls.specs.Outcomes.{Held};
 ghost use Rattle.cvl_calls.specs.Work.{reduce, reduce_segments, scan, scan_segments};
 
 use crate::conditions::has_all;
@@ -22,9 +21,7 @@ use vector_memory::{Memory, Name};
 #[tactic(auto, unfolding(crate::specs::Work::scan))]
 #[inline(always)]
 pub(crate) fn scan_ints<'a>(memory: &'a Memory, op: ScanZ, a: &Name) -> Result<Judged<'a>, Fault>
-    ensures gives { viewed made result ≡ scan integers (combine_z op) (unit_z op) (Held (value_at memory.now a.now)) }
-    ensures word { IfOk result (λ judged. word_of judged ≡ words.One (ones.ScanZ op)) }
-    ensures ready { IfOk result IsReady }
+    ensures { Judges (words.One (ones.ScanZ op)) (scan integers (combine_z op) (unit_z op) (Held (value_at memory.now a.now))) result }
 {
     Ok(Judged::ScanInts(op, ints(memory, a)?, None))
 }
@@ -37,9 +34,7 @@ pub(crate) fn scan_int_segments<'a>(
     a: &Name,
     s: &Name,
 ) -> Result<Judged<'a>, Fault>
-    ensures gives { viewed made result ≡ scan_segments integers (combine_z op) (unit_z op) (Held (value_at memory.now a.now)) (Held (value_at memory.now s.now)) }
-    ensures word { IfOk result (λ judged. word_of judged ≡ words.Two (twos.ScanSegZ op)) }
-    ensures ready { IfOk result IsReady }
+    ensures { Judges (words.Two (twos.ScanSegZ op)) (scan_segments integers (combine_z op) (unit_z op) (Held (value_at memory.now a.now)) (Held (value_at memory.now s.now))) result }
 {
     let xs = ints(memory, a)?;
     let segments = segs(memory, s)?;
@@ -50,9 +45,7 @@ pub(crate) fn scan_int_segments<'a>(
 #[tactic(auto, unfolding(crate::specs::Work::reduce))]
 #[inline(always)]
 pub(crate) fn reduce_ints<'a>(memory: &'a Memory, op: ScanZ, a: &Name) -> Result<Judged<'a>, Fault>
-    ensures gives { viewed made result ≡ reduce integers (combine_z op) (unit_z op) (Held (value_at memory.now a.now)) }
-    ensures word { IfOk result (λ judged. word_of judged ≡ words.Ask (asks.RedZ op)) }
-    ensures ready { IfOk result IsReady }
+    ensures { Judges (words.Ask (asks.RedZ op)) (reduce integers (combine_z op) (unit_z op) (Held (value_at memory.now a.now))) result }
 {
     Ok(Judged::ReduceInts(op, ints(memory, a)?))
 }
@@ -65,9 +58,7 @@ pub(crate) fn reduce_int_segments<'a>(
     a: &Name,
     s: &Name,
 ) -> Result<Judged<'a>, Fault>
-    ensures gives { viewed made result ≡ reduce_segments integers (combine_z op) (unit_z op) (Held (value_at memory.now a.now)) (Held (value_at memory.now s.now)) }
-    ensures word { IfOk result (λ judged. word_of judged ≡ words.Two (twos.RedSegZ op)) }
-    ensures ready { IfOk result IsReady }
+    ensures { Judges (words.Two (twos.RedSegZ op)) (reduce_segments integers (combine_z op) (unit_z op) (Held (value_at memory.now a.now)) (Held (value_at memory.now s.now))) result }
 {
     let xs = ints(memory, a)?;
     let segments = segs(memory, s)?;
@@ -78,9 +69,7 @@ pub(crate) fn reduce_int_segments<'a>(
 #[tactic(auto, unfolding(crate::specs::Work::scan))]
 #[inline(always)]
 pub(crate) fn scan_bools<'a>(memory: &'a Memory, op: ScanB, a: &Name) -> Result<Judged<'a>, Fault>
-    ensures gives { viewed made result ≡ scan truths (combine_b op) (unit_b op) (Held (value_at memory.now a.now)) }
-    ensures word { IfOk result (λ judged. word_of judged ≡ words.One (ones.ScanB op)) }
-    ensures ready { IfOk result IsReady }
+    ensures { Judges (words.One (ones.ScanB op)) (scan truths (combine_b op) (unit_b op) (Held (value_at memory.now a.now))) result }
 {
     Ok(Judged::ScanBools(op, bools(memory, a)?, None))
 }
@@ -93,9 +82,7 @@ pub(crate) fn scan_bool_segments<'a>(
     a: &Name,
     s: &Name,
 ) -> Result<Judged<'a>, Fault>
-    ensures gives { viewed made result ≡ scan_segments truths (combine_b op) (unit_b op) (Held (value_at memory.now a.now)) (Held (value_at memory.now s.now)) }
-    ensures word { IfOk result (λ judged. word_of judged ≡ words.Two (twos.ScanSegB op)) }
-    ensures ready { IfOk result IsReady }
+    ensures { Judges (words.Two (twos.ScanSegB op)) (scan_segments truths (combine_b op) (unit_b op) (Held (value_at memory.now a.now)) (Held (value_at memory.now s.now))) result }
 {
     let xs = bools(memory, a)?;
     let segments = segs(memory, s)?;
@@ -106,9 +93,7 @@ pub(crate) fn scan_bool_segments<'a>(
 #[tactic(auto, unfolding(crate::specs::Work::reduce))]
 #[inline(always)]
 pub(crate) fn reduce_bools<'a>(memory: &'a Memory, op: ScanB, a: &Name) -> Result<Judged<'a>, Fault>
-    ensures gives { viewed made result ≡ reduce truths (combine_b op) (unit_b op) (Held (value_at memory.now a.now)) }
-    ensures word { IfOk result (λ judged. word_of judged ≡ words.Ask (asks.RedB op)) }
-    ensures ready { IfOk result IsReady }
+    ensures { Judges (words.Ask (asks.RedB op)) (reduce truths (combine_b op) (unit_b op) (Held (value_at memory.now a.now))) result }
 {
     Ok(Judged::ReduceBools(op, bools(memory, a)?))
 }
@@ -121,9 +106,7 @@ pub(crate) fn reduce_bool_segments<'a>(
     a: &Name,
     s: &Name,
 ) -> Result<Judged<'a>, Fault>
-    ensures gives { viewed made result ≡ reduce_segments truths (combine_b op) (unit_b op) (Held (value_at memory.now a.now)) (Held (value_at memory.now s.now)) }
-    ensures word { IfOk result (λ judged. word_of judged ≡ words.Two (twos.RedSegB op)) }
-    ensures ready { IfOk result IsReady }
+    ensures { Judges (words.Two (twos.RedSegB op)) (reduce_segments truths (combine_b op) (unit_b op) (Held (value_at memory.now a.now)) (Held (value_at memory.now s.now))) result }
 {
     let xs = bools(memory, a)?;
     let segments = segs(memory, s)?;

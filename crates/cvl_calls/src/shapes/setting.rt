@@ -1,10 +1,9 @@
 //! The two forms of set.
 
-ghost use Rattle.std.specs.Prelude.{◌≡◌, IfOk};
 ghost use Rattle.cvl_text.specs.declared.word.Word.TheVariants as words;
-ghost use Rattle.cvl_calls.specs.Judging.{IsReady, made, word_of};
+ghost use Rattle.cvl_calls.specs.Judging.{Judges};
 ghost use Rattle.cvl_calls.specs.Operands.{integers, truths};
-ghost use Rattle.cvl_calls.specs.Outcomes.{NumbersGiven, TruthsGiven, viewed};
+ghost use Rattle.cvl_calls.specs.Outcomes.{NumbersGiven, TruthsGiven};
 ghost use Rattle.cvl_calls.specs.Work.{set};
 
 use crate::judged::Judged;
@@ -14,9 +13,7 @@ use cvl_text::Fault;
 #[tactic(auto, unfolding(crate::specs::Work::set))]
 #[inline(always)]
 pub(crate) fn set_ints<'a>(limit: usize, items: &'a [i64]) -> Result<Judged<'a>, Fault>
-    ensures gives { viewed made result ≡ set limit integers (NumbersGiven items.now) }
-    ensures word { IfOk result (λ judged. word_of judged ≡ words.SetInts) }
-    ensures ready { IfOk result IsReady }
+    ensures { Judges words.SetInts (set limit integers (NumbersGiven items.now)) result }
 {
     check_length(limit, items.len())?;
     Ok(Judged::SetInts(items))
@@ -25,9 +22,7 @@ pub(crate) fn set_ints<'a>(limit: usize, items: &'a [i64]) -> Result<Judged<'a>,
 #[tactic(auto, unfolding(crate::specs::Work::set))]
 #[inline(always)]
 pub(crate) fn set_bools<'a>(limit: usize, items: &'a [bool]) -> Result<Judged<'a>, Fault>
-    ensures gives { viewed made result ≡ set limit truths (TruthsGiven items.now) }
-    ensures word { IfOk result (λ judged. word_of judged ≡ words.SetBools) }
-    ensures ready { IfOk result IsReady }
+    ensures { Judges words.SetBools (set limit truths (TruthsGiven items.now)) result }
 {
     check_length(limit, items.len())?;
     Ok(Judged::SetBools(items))

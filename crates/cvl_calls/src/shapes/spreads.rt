@@ -1,13 +1,12 @@
 //! One value many times over, and numbers that rise by a stride.
 
-ghost use Rattle.std.specs.Prelude.{◌≡◌, IfOk};
 ghost use Rattle.vector_memory.specs.States.{value_at};
 ghost use Rattle.cvl_text.specs.declared.word.ThreeWord.TheVariants as threes;
 ghost use Rattle.cvl_text.specs.declared.word.TwoWord.TheVariants as twos;
 ghost use Rattle.cvl_text.specs.declared.word.Word.TheVariants as words;
-ghost use Rattle.cvl_calls.specs.Judging.{IsReady, made, word_of};
+ghost use Rattle.cvl_calls.specs.Judging.{Judges};
 ghost use Rattle.cvl_calls.specs.Operands.{integers, truths};
-ghost use Rattle.cvl_calls.specs.Outcomes.{Held, NumberGiven, TruthGiven, viewed};
+ghost use Rattle.cvl_calls.specs.Outcomes.{Held, NumberGiven, TruthGiven};
 ghost use Rattle.cvl_calls.specs.Work.{distribute, index, index_segments, repeat};
 
 use crate::conditions::{has_each, same_length};
@@ -19,9 +18,7 @@ use vector_memory::{Memory, Name};
 #[tactic(auto, unfolding(crate::specs::Work::repeat))]
 #[inline(always)]
 pub(crate) fn repeat_int(limit: usize, x: i64, n: i64) -> Result<Judged<'static>, Fault>
-    ensures gives { viewed made result ≡ repeat limit integers (NumberGiven x) (NumberGiven n) }
-    ensures word { IfOk result (λ judged. word_of judged ≡ words.DisZ) }
-    ensures ready { IfOk result IsReady }
+    ensures { Judges words.DisZ (repeat limit integers (NumberGiven x) (NumberGiven n)) result }
 {
     Ok(Judged::RepeatInt(x, count(limit, n)?))
 }
@@ -29,9 +26,7 @@ pub(crate) fn repeat_int(limit: usize, x: i64, n: i64) -> Result<Judged<'static>
 #[tactic(auto, unfolding(crate::specs::Work::repeat))]
 #[inline(always)]
 pub(crate) fn repeat_bool(limit: usize, x: bool, n: i64) -> Result<Judged<'static>, Fault>
-    ensures gives { viewed made result ≡ repeat limit truths (TruthGiven x) (NumberGiven n) }
-    ensures word { IfOk result (λ judged. word_of judged ≡ words.DisB) }
-    ensures ready { IfOk result IsReady }
+    ensures { Judges words.DisB (repeat limit truths (TruthGiven x) (NumberGiven n)) result }
 {
     Ok(Judged::RepeatBool(x, count(limit, n)?))
 }
@@ -44,9 +39,7 @@ pub(crate) fn distribute<'a>(
     a: &Name,
     s: &Name,
 ) -> Result<Judged<'a>, Fault>
-    ensures gives { viewed made result ≡ distribute kind (Held (value_at memory.now a.now)) (Held (value_at memory.now s.now)) }
-    ensures word { IfOk result (λ judged. word_of judged ≡ words.Two (twos.DisSeg kind)) }
-    ensures ready { IfOk result IsReady }
+    ensures { Judges (words.Two (twos.DisSeg kind)) (distribute kind (Held (value_at memory.now a.now)) (Held (value_at memory.now s.now))) result }
 {
     let xs = items(memory, kind, a)?;
     let segments = segs(memory, s)?;
@@ -57,9 +50,7 @@ pub(crate) fn distribute<'a>(
 #[tactic(auto, unfolding(crate::specs::Work::index))]
 #[inline(always)]
 pub(crate) fn index(limit: usize, u: i64, v: i64, n: i64) -> Result<Judged<'static>, Fault>
-    ensures gives { viewed made result ≡ index limit (NumberGiven u) (NumberGiven v) (NumberGiven n) }
-    ensures word { IfOk result (λ judged. word_of judged ≡ words.Ind) }
-    ensures ready { IfOk result IsReady }
+    ensures { Judges words.Ind (index limit (NumberGiven u) (NumberGiven v) (NumberGiven n)) result }
 {
     Ok(Judged::Index(u, v, count(limit, n)?))
 }
@@ -72,9 +63,7 @@ pub(crate) fn index_segments<'a>(
     b: &Name,
     s: &Name,
 ) -> Result<Judged<'a>, Fault>
-    ensures gives { viewed made result ≡ index_segments (Held (value_at memory.now a.now)) (Held (value_at memory.now b.now)) (Held (value_at memory.now s.now)) }
-    ensures word { IfOk result (λ judged. word_of judged ≡ words.Three threes.IndSeg) }
-    ensures ready { IfOk result IsReady }
+    ensures { Judges (words.Three threes.IndSeg) (index_segments (Held (value_at memory.now a.now)) (Held (value_at memory.now b.now)) (Held (value_at memory.now s.now))) result }
 {
     let starts = ints(memory, a)?;
     let strides = ints(memory, b)?;

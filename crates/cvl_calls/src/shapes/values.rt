@@ -1,13 +1,11 @@
 //! Whole values: replied, copied, freed, made and measured. None of these runs a kernel.
 
-ghost use Rattle.std.specs.Prelude.{◌≡◌, ◌≤◌, length, IfOk};
-ghost use Rattle.vector_memory.specs.Contents.{content_of};
 ghost use Rattle.vector_memory.specs.States.{value_at};
 ghost use Rattle.cvl_text.specs.declared.word.AskWord.TheVariants as asks;
 ghost use Rattle.cvl_text.specs.declared.word.OneWord.TheVariants as ones;
 ghost use Rattle.cvl_text.specs.declared.word.Word.TheVariants as words;
-ghost use Rattle.cvl_calls.specs.Judging.{IsReady, made, word_of};
-ghost use Rattle.cvl_calls.specs.Outcomes.{Held, NumberGiven, viewed};
+ghost use Rattle.cvl_calls.specs.Judging.{Judges};
+ghost use Rattle.cvl_calls.specs.Outcomes.{Held, NumberGiven};
 ghost use Rattle.cvl_calls.specs.Work.{alo, free, get, len, len_segs, make_segs, mov};
 
 use crate::judged::Judged;
@@ -20,9 +18,7 @@ use vector_memory::{Memory, Name};
 #[tactic(auto, unfolding(crate::specs::Work::get))]
 #[inline(always)]
 pub(crate) fn get<'a>(memory: &'a Memory, a: &Name) -> Result<Judged<'a>, Fault>
-    ensures gives { viewed made result ≡ get (Held (value_at memory.now a.now)) }
-    ensures word { IfOk result (λ judged. word_of judged ≡ words.Ask asks.Get) }
-    ensures ready { IfOk result IsReady }
+    ensures { Judges (words.Ask asks.Get) (get (Held (value_at memory.now a.now))) result }
 {
     Ok(Judged::Get(any_value(memory, a)?))
 }
@@ -30,9 +26,7 @@ pub(crate) fn get<'a>(memory: &'a Memory, a: &Name) -> Result<Judged<'a>, Fault>
 #[tactic(auto, unfolding(crate::specs::Work::mov))]
 #[inline(always)]
 pub(crate) fn mov<'a>(memory: &'a Memory, a: &Name) -> Result<Judged<'a>, Fault>
-    ensures gives { viewed made result ≡ mov (Held (value_at memory.now a.now)) }
-    ensures word { IfOk result (λ judged. word_of judged ≡ words.One ones.Mov) }
-    ensures ready { IfOk result IsReady }
+    ensures { Judges (words.One ones.Mov) (mov (Held (value_at memory.now a.now))) result }
 {
     Ok(Judged::Mov(any_value(memory, a)?))
 }
@@ -40,9 +34,7 @@ pub(crate) fn mov<'a>(memory: &'a Memory, a: &Name) -> Result<Judged<'a>, Fault>
 #[tactic(auto, unfolding(crate::specs::Work::free))]
 #[inline(always)]
 pub(crate) fn free<'a>(memory: &'a Memory, a: &Name) -> Result<Judged<'a>, Fault>
-    ensures gives { viewed made result ≡ free (Held (value_at memory.now a.now)) }
-    ensures word { IfOk result (λ judged. word_of judged ≡ words.Ask asks.Free) }
-    ensures ready { IfOk result IsReady }
+    ensures { Judges (words.Ask asks.Free) (free (Held (value_at memory.now a.now))) result }
 {
     any_value(memory, a)?;
     Ok(Judged::Free)
@@ -51,9 +43,7 @@ pub(crate) fn free<'a>(memory: &'a Memory, a: &Name) -> Result<Judged<'a>, Fault
 #[tactic(auto, unfolding(crate::specs::Work::alo))]
 #[inline(always)]
 pub(crate) fn alo(limit: usize, n: i64) -> Result<Judged<'static>, Fault>
-    ensures gives { viewed made result ≡ alo limit (NumberGiven n) }
-    ensures word { IfOk result (λ judged. word_of judged ≡ words.Alo) }
-    ensures ready { IfOk result IsReady }
+    ensures { Judges words.Alo (alo limit (NumberGiven n)) result }
 {
     Ok(Judged::Alo(count(limit, n)?))
 }
@@ -61,9 +51,7 @@ pub(crate) fn alo(limit: usize, n: i64) -> Result<Judged<'static>, Fault>
 #[tactic(auto, unfolding(crate::specs::Work::len))]
 #[inline(always)]
 pub(crate) fn len<'a>(memory: &'a Memory, a: &Name) -> Result<Judged<'a>, Fault>
-    ensures gives { viewed made result ≡ len (Held (value_at memory.now a.now)) }
-    ensures word { IfOk result (λ judged. word_of judged ≡ words.Ask asks.Len) }
-    ensures ready { IfOk result IsReady }
+    ensures { Judges (words.Ask asks.Len) (len (Held (value_at memory.now a.now))) result }
 {
     memories_are_lawful(memory);
     let value = any_value(memory, a)?;
@@ -73,9 +61,7 @@ pub(crate) fn len<'a>(memory: &'a Memory, a: &Name) -> Result<Judged<'a>, Fault>
 #[tactic(auto, unfolding(crate::specs::Work::make_segs))]
 #[inline(always)]
 pub(crate) fn make_segs<'a>(memory: &'a Memory, a: &Name) -> Result<Judged<'a>, Fault>
-    ensures gives { viewed made result ≡ make_segs memory.now.limit (Held (value_at memory.now a.now)) }
-    ensures word { IfOk result (λ judged. word_of judged ≡ words.One ones.MakeSegs) }
-    ensures ready { IfOk result IsReady }
+    ensures { Judges (words.One ones.MakeSegs) (make_segs memory.now.limit (Held (value_at memory.now a.now))) result }
 {
     memories_are_lawful(memory);
     let lengths = ints(memory, a)?;
@@ -89,9 +75,7 @@ pub(crate) fn make_segs<'a>(memory: &'a Memory, a: &Name) -> Result<Judged<'a>, 
 #[tactic(auto, unfolding(crate::specs::Work::len_segs))]
 #[inline(always)]
 pub(crate) fn len_segs<'a>(memory: &'a Memory, s: &Name) -> Result<Judged<'a>, Fault>
-    ensures gives { viewed made result ≡ len_segs (Held (value_at memory.now s.now)) }
-    ensures word { IfOk result (λ judged. word_of judged ≡ words.One ones.LenSegs) }
-    ensures ready { IfOk result IsReady }
+    ensures { Judges (words.One ones.LenSegs) (len_segs (Held (value_at memory.now s.now))) result }
 {
     Ok(Judged::LenSegs(segs(memory, s)?))
 }

@@ -1,5 +1,7 @@
-ghost use Rattle.std.specs.Prelude.{◌≡◌, ◌+◌, ◌<◌, None, IfSome, IfNone};
-ghost use Rattle.request_slots.specs.Views.{locking, Meets, ShowsLine, IsSpare};
+ghost use Rattle.std.specs.Prelude.{◌≡◌, ◌<◌, None, IfSome, IfNone};
+ghost use Rattle.request_slots.specs.Standing.{callers_of};
+ghost use Rattle.request_slots.specs.Changes.{MeetsAnother, ShowsLine};
+ghost use Rattle.request_slots.specs.Views.{with_standing, locking, IsSpare};
 
 use crate::desk::{Desk, Slot};
 use crate::places::{DESK, FREE, LOCK};
@@ -10,14 +12,15 @@ use crate::slots::Slots;
 impl Slots {
     /// Takes the desk, in one try. It fails only where the lock names another caller, which is then among those met.
     pub fn step_lock(&self, seat: &mut Seat) -> Option<Box<Desk>>
-        requires place { seat.old.table_id ≡ self.now }
-        requires no_desk { seat.old.known.pass ≡ None }
-        ensures place { seat.new.table_id ≡ self.now }
-        ensures won { IfSome result (λ d. seat.new.known ≡ locking seat.old.known d.value.book.history) }
-        ensures line { IfSome result (λ d. ShowsLine self.now.slots seat.old.known d.value.book) }
+        requires place { seat.old.standing.machine ≡ self.now }
+        requires no_desk { seat.old.pass ≡ None }
+        ensures place { seat.new.standing.machine ≡ self.now }
+        ensures won { IfSome result (λ d. seat.new ≡ locking seat.old d.value.book.history) }
+        ensures line { IfSome result (λ d. ShowsLine (callers_of self.now) seat.old.standing d.value.book) }
         ensures spare { IfSome result (λ d. IsSpare self.now.slots d.value) }
-        ensures lost { IfNone result (Meets self.now.slots seat.old.known seat.new.known) }
-        ensures inside { seat.old.known.number + 1 < self.now.slots }
+        ensures lost { IfNone result (MeetsAnother seat.old.standing seat.new.standing) }
+        ensures only_met { IfNone result (seat.new ≡ with_standing seat.old seat.new.standing) }
+        ensures inside { seat.old.standing.number < callers_of self.now }
     {
         let shared = &self.table.shared;
         let mark = seat.number as u64 + 1;

@@ -1,6 +1,7 @@
-ghost use Rattle.std.specs.Prelude.{◌≡◌, [], ◌∷◌, None};
-ghost use Rattle.request_slots.specs.declared.known.Phase.TheVariants.{Idle};
-ghost use Rattle.request_slots.specs.Views.{posting};
+ghost use Rattle.std.specs.Prelude.{◌≡◌, None};
+ghost use Rattle.request_slots.specs.Standing.{IsIdle};
+ghost use Rattle.request_slots.specs.Changes.{leaving};
+ghost use Rattle.request_slots.specs.Views.{with_standing};
 
 use crate::desk::Slot;
 use crate::places::{IDLE, POSTED, slot_at, word_at};
@@ -12,11 +13,11 @@ use cvl_text::Call;
 impl Slots {
     /// An idle caller leaves its call.
     pub fn step_post(&self, seat: &mut Seat, call: Call)
-        requires place { seat.old.table_id ≡ self.now }
-        requires idle { seat.old.known.phase ≡ Idle }
-        requires no_desk { seat.old.known.pass ≡ None }
-        ensures place { seat.new.table_id ≡ self.now }
-        ensures known { seat.new.known ≡ posting seat.old.known (call ∷ []) }
+        requires place { seat.old.standing.machine ≡ self.now }
+        requires idle { IsIdle seat.old.standing }
+        requires no_desk { seat.old.pass ≡ None }
+        ensures place { seat.new.standing.machine ≡ self.now }
+        ensures known { seat.new ≡ with_standing seat.old (leaving seat.old.standing call) }
     {
         let shared = &self.table.shared;
         let number = seat.number;

@@ -40,8 +40,8 @@ fn pair(alloc: Global) -> Option<(Slots, Seat, Seat)>
 /// Posts a call. It has no outcome yet.
 fn waits(slots: &Slots, seat: &mut Seat, call: Call) -> bool
     requires new { IsNewSeatAt slots.now seat.old }
-    ensures place { seat.new.table_id ≡ slots.now }
-    ensures no_desk { seat.new.known.pass ≡ None }
+    ensures place { seat.new.standing.machine ≡ slots.now }
+    ensures no_desk { seat.new.pass ≡ None }
 {
     slots.step_post(seat, call);
     slots.step_collect(seat).is_none()

@@ -1,5 +1,5 @@
 ghost use Rattle.std.specs.Prelude.{◌≡◌, length, All};
-ghost use Rattle.scan_kernels.specs.IntegerOps.{IsAllowed};
+ghost use Rattle.item_operations.specs.IntegerOps.{IsAllowed};
 
 use crate::{
     B1, B2, Cmp, Meter, Z1, Z2, compare2, divisors_ok, map1_b, map1_z, map2_b, map2_z, number,

@@ -1,5 +1,5 @@
-use Rattle.std.proofs.Common.{rules, arith, ◌≡◌, ◌∷◌, ◌++◌, [], length, refl}
-use Rattle.combiner.proofs.Tellings.{telling_last, telling_next}
+use Rattle.std.proofs.Common.{rules, arith, ◌≡◌, ◌∷◌, ◌++◌, [], length}
+use Rattle.combiner.proofs.Tellings.{next_asks, telling_last, telling_next}
 use Rattle.combiner.proofs.pass.answer_all.Goals as goal
 
 pub step_answer-requires-clause-caller : goal.step_answer-requires-clause-caller
@@ -13,8 +13,7 @@ pub step_answer-requires-clause-taken : goal.step_answer-requires-clause-taken
 step_answer-requires-clause-taken c =
     let left : c.len-left.result ≡ length c.pop.new.self.items = search rules in
     let items : c.loop-outcome.outcomes.items ≡ c.pop.new.self.items ++ c.in-Some.outcome ∷ [] = search rules in
-    let next = telling_last c.args.callers _ _ _ _ c.in-Some.outcome c.args.numbers.now c.len-left.result left items c.loop-outcome.invariant.0 in
-    (next.earlier, [], next.call, next.last, next.length_is, refl)
+    next_asks (telling_last c.args.callers _ _ _ _ c.in-Some.outcome c.args.numbers.now c.len-left.result left items c.loop-outcome.invariant.0)
 
 pub step_answer-requires-clause-outcome : goal.step_answer-requires-clause-outcome
 step_answer-requires-clause-outcome c =

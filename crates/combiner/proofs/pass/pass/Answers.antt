@@ -17,7 +17,7 @@ returns-clause-served g c =
     let now : c.deref-2.result.now.book.history ≡ c.run_all.new.book.history = search rules in
     let grows : Begins c.in_ok-desk.desk.value.book.history c.deref-2.result.now.book.history =
     subst (λ l. Begins l c.deref-2.result.now.book.history) line (subst (Begins c.deref_mut-open.result.now.book.history) (sym now) c.run_all.ensures.fits.grows) in
-    subst (HasServed c.args.seat.now.known c.step_unlock.new.seat.known) (sym count)
-    (pass_serves c.args.callers c.args.seat.now.known c.step_lock.new.seat.known c.take_all.new.seat.known c.step_commit.new.seat.known c.answer_all.new.seat.known c.step_unlock.new.seat.known
+    subst (HasServed c.args.seat.now c.step_unlock.new.seat) (sym count)
+    (pass_serves c.args.callers c.args.seat.now c.step_lock.new.seat c.take_all.new.seat c.step_commit.new.seat c.answer_all.new.seat c.step_unlock.new.seat
     c.in_ok-desk.desk.value.book.history c.deref-2.result.now.book.history c.deref-2.result.now.outcomes.items c.take_all.new.requests.items c.take_all.new.numbers
     c.in_ok-desk.ensures.won c.take_all.ensures.taken grows c.step_commit.ensures.known c.answer_all.ensures.told c.step_unlock.ensures.known (omega arith) c.in_ok-desk.ensures.line.begins)

@@ -1,6 +1,5 @@
 use Rattle.std.proofs.Common.{rules, arith, ◌≡◌, ℕ, ◌<◌, length, set, ◌∙◌, sym, ap, subst, vec_capacity, length-set}
 use Rattle.request_slots.specs.declared.known.Known.{Known}
-use Rattle.request_slots.specs.Seating.{Seated}
 use Rattle.combiner.specs.Passes.{Taking}
 use Rattle.combiner.proofs.PassSteps.{taking_hits, taking_misses, taking_same}
 use Rattle.combiner.proofs.pass.take_all.Goals as goal
@@ -9,7 +8,7 @@ use Rattle.combiner.proofs.pass.take_all.Goals.{in-Some, in_default}
 pub loop-i-preserved : goal.loop-i-preserved
 loop-i-preserved c =
     let kept = c.passes_by.ensures.kept c.if-passes_by.false in
-    let t = subst (λ (k : Known). Taking c.args.seat.now.known k c.loop-i.i c.loop-i.requests.items c.loop-i.numbers) (sym (ap (λ (z : Seated). z.known) kept)) c.loop-i.invariant.0 in
+    let t = subst (λ (k : Known). Taking c.args.seat.now k c.loop-i.i c.loop-i.requests.items c.loop-i.numbers) (sym kept) c.loop-i.invariant.0 in
     let i : ℕ = c.loop-i.i in
     let below = c.loop-i-test.true in let few = t.few in let small = c.requires.callers.1 in
     elim c.match-step_take.branch [

@@ -1,6 +1,6 @@
 use Rattle.std.proofs.Common.{arith, rules, ◌≡◌, ◌∙◌, pos, get_or, w64, to_z, of_z, ℤ}
 use Rattle.std.proofs.lemmas.Int.{ints}
-use Rattle.scan_kernels.specs.IntegerOps.{compares}
+use Rattle.item_operations.specs.IntegerOps.{compares}
 use Rattle.scan_kernels.proofs.Mapped.{map-take-zip_more, take-zip_all}
 use Rattle.scan_kernels.proofs.compare.compared.Goals as goal
 

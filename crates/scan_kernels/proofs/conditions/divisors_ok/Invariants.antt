@@ -1,5 +1,5 @@
 use Rattle.std.proofs.Common.{◌↔◌, All, IsTrue, take}
-use Rattle.scan_kernels.specs.IntegerOps.{IsDivisor}
+use Rattle.item_operations.specs.IntegerOps.{IsDivisor}
 use Rattle.scan_kernels.proofs.conditions.divisors_ok.Given as goal
 
 abbrev pub invariant-loop-divisor : goal.invariant-loop-divisor

@@ -1,6 +1,6 @@
 use Rattle.std.proofs.Common.{rules, ◌≡◌, pos, get_or, w64, to_z, of_z}
 use Rattle.std.proofs.lemmas.Int.{ints}
-use Rattle.scan_kernels.specs.IntegerOps.{IsShift}
+use Rattle.item_operations.specs.IntegerOps.{IsShift}
 use Rattle.scan_kernels.proofs.Tested.{each_more, each_all}
 use Rattle.scan_kernels.proofs.conditions.shifts_ok.Goals as goal
 

@@ -1,5 +1,5 @@
 use Rattle.std.proofs.Common.{◌↔◌, All, IsTrue, take}
-use Rattle.scan_kernels.specs.IntegerOps.{IsShift}
+use Rattle.item_operations.specs.IntegerOps.{IsShift}
 use Rattle.scan_kernels.proofs.conditions.shifts_ok.Given as goal
 
 abbrev pub invariant-loop-count : goal.invariant-loop-count

@@ -22,6 +22,6 @@ loop-i-preserved c =
     let start = to_z w64 (of_z w64 c.args.start) in
     let stride = to_z w64 (of_z w64 c.args.stride) in
     let i = c.loop-i.i in
-    let item = to_z-of_z w64 c.item_at.result (search rules) ∙ c.item_at.ensures in
+    let item = to_z-of_z w64 c.index_at.result (search rules) ∙ c.index_at.ensures in
     appends_more c.loop-i.invariant (record { items = c.push_reserved.ensures.items; len = search rules; capacity = c.push_reserved.ensures.capacity })
     (ap (λ x. indexed start stride i ++ x ∷ []) item ∙ sym (indexed_push start stride i))

@@ -1,4 +1,4 @@
-use Rattle.scan_kernels.specs.BooleanScans.{combine_b, unit_b}
+use Rattle.item_operations.specs.BooleanScans.{combine_b, unit_b}
 use Rattle.scan_kernels.proofs.Scanned.{length-scanned, slice_get-scanned}
 use Rattle.scan_kernels.proofs.laws.scans_reduce_prefixes_b.Goals as goal
 

@@ -1,4 +1,4 @@
-use Rattle.scan_kernels.specs.IntegerScans.{combine_z, unit_z}
+use Rattle.item_operations.specs.IntegerScans.{combine_z, unit_z}
 use Rattle.scan_kernels.proofs.Scanned.{length-scanned, slice_get-scanned}
 use Rattle.scan_kernels.proofs.laws.scans_reduce_prefixes_z.Goals as goal
 

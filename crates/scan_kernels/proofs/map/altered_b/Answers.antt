@@ -1,6 +1,6 @@
 use Rattle.std.proofs.Common.{arith, ◌∙◌, ap, map, false}
 use Rattle.std.proofs.lemmas.List.{map_more, take_all}
-use Rattle.scan_kernels.specs.BooleanOps.{alter_b}
+use Rattle.item_operations.specs.BooleanOps.{alter_b}
 use Rattle.scan_kernels.proofs.map.altered_b.Goals as goal
 
 pub loop-x-preserved : goal.loop-x-preserved

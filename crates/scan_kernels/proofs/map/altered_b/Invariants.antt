@@ -1,5 +1,5 @@
 use Rattle.std.proofs.Common.{◌≡◌, length, map, take, vec_len, vec_capacity}
-use Rattle.scan_kernels.specs.BooleanOps.{alter_b}
+use Rattle.item_operations.specs.BooleanOps.{alter_b}
 use Rattle.scan_kernels.proofs.map.altered_b.Given as goal
 
 abbrev pub invariant-loop-x : goal.invariant-loop-x

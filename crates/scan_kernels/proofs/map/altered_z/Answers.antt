@@ -1,7 +1,7 @@
 use Rattle.std.proofs.Common.{arith, rules, ◌≡◌, ◌∙◌, pos, get_or, ap, map, w64, to_z, of_z}
 use Rattle.std.proofs.lemmas.Int.{ints}
 use Rattle.std.proofs.lemmas.List.{map_more, take_all}
-use Rattle.scan_kernels.specs.IntegerOps.{alter_z}
+use Rattle.item_operations.specs.IntegerOps.{alter_z}
 use Rattle.scan_kernels.proofs.map.altered_z.Goals as goal
 
 pub loop-x-preserved : goal.loop-x-preserved

@@ -1,5 +1,5 @@
 use Rattle.std.proofs.Common.{arith, ◌∙◌, Bool, false}
-use Rattle.scan_kernels.specs.BooleanOps.{apply_b}
+use Rattle.item_operations.specs.BooleanOps.{apply_b}
 use Rattle.scan_kernels.proofs.Mapped.{map-take-zip_more, take-zip_all}
 use Rattle.scan_kernels.proofs.map.applied_b.Goals as goal
 

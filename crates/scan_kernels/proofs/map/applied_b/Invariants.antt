@@ -1,5 +1,5 @@
 use Rattle.std.proofs.Common.{◌≡◌, length, map, take, vec_len, vec_capacity, zip}
-use Rattle.scan_kernels.specs.BooleanOps.{apply_b}
+use Rattle.item_operations.specs.BooleanOps.{apply_b}
 use Rattle.scan_kernels.proofs.map.applied_b.Given as goal
 
 abbrev pub invariant-loop-i : goal.invariant-loop-i

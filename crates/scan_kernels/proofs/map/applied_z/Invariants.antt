@@ -1,5 +1,5 @@
 use Rattle.std.proofs.Common.{◌≡◌, length, map, take, vec_len, vec_capacity, zip}
-use Rattle.scan_kernels.specs.IntegerOps.{apply_z}
+use Rattle.item_operations.specs.IntegerOps.{apply_z}
 use Rattle.scan_kernels.proofs.map.applied_z.Given as goal
 
 abbrev pub invariant-loop-i : goal.invariant-loop-i

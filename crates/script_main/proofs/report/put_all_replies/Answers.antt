@@ -5,7 +5,7 @@ use Rattle.std.specs.Global.{Global}
 use Rattle.std.specs.Prelude.{Vec}
 use Rattle.cvl_text.specs.declared.reply.Reply.{Reply}
 use Rattle.cvl_text.specs.Answers.{answer_of}
-use Rattle.script_main.specs.declared.fault.RunFault.{RunFault}
+use Rattle.script_lines.specs.declared.fault.RunFault.{RunFault}
 use Rattle.script_main.specs.Reports.{Puts, replies_text}
 use Rattle.script_main.proofs.PutLemmas.{Puts-none}
 use Rattle.script_main.proofs.ListingLemmas.{Puts-caller, Puts-caller_stop}

@@ -2,9 +2,9 @@ use Rattle.std.proofs.Common.{◌<◌, Ok, Err, length, Result, sym, ap, ◌∙�
 use Rattle.std.specs.List.{flat_map}
 use Rattle.std.proofs.lemmas.Result.{err_from_is_err_and}
 use Rattle.cvl_text.specs.Answers.{answer_of}
-use Rattle.script_main.specs.declared.fault.RunFault.{RunFault}
-use Rattle.script_main.specs.declared.fault.RunFault.TheVariants as stops
-use Rattle.script_main.specs.Scripts.{reply_line}
+use Rattle.script_lines.specs.declared.fault.RunFault.{RunFault}
+use Rattle.script_lines.specs.declared.fault.RunFault.TheVariants as stops
+use Rattle.script_lines.specs.Scripts.{reply_line}
 use Rattle.script_main.specs.Reports.{Puts}
 use Rattle.script_main.proofs.PutLemmas.{Puts-none, Puts-nothing, Puts-behind}
 use Rattle.script_main.proofs.ListingLemmas.{Puts-item, Puts-item_stop}

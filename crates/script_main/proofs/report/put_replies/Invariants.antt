@@ -1,7 +1,7 @@
 use Rattle.std.proofs.Common.{Ok, map, take}
 use Rattle.std.specs.List.{flat_map}
 use Rattle.cvl_text.specs.Answers.{answer_of}
-use Rattle.script_main.specs.Scripts.{reply_line}
+use Rattle.script_lines.specs.Scripts.{reply_line}
 use Rattle.script_main.specs.Reports.{Puts}
 use Rattle.script_main.proofs.report.put_replies.Given as goal
 

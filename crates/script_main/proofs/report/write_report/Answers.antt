@@ -6,7 +6,7 @@ use Rattle.cvl_text.specs.Answers.{answer_of}
 use Rattle.vector_memory.specs.States.{State}
 use Rattle.call_history.specs.Books.{memory_of}
 use Rattle.script_main.specs.Reports.{Puts, answers_of, replies_text, memory_text}
-use Rattle.script_main.proofs.StopLemmas.{on-err}
+use Rattle.script_lines.proofs.FaultLemmas.{on-err}
 use Rattle.script_main.proofs.ReportLemmas.{report-stop_replies, report-stop_memory, report-stop_audit, report-written, report-begun}
 use Rattle.script_main.proofs.report.write_report.Goals as goal
 

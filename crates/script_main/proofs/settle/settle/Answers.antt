@@ -3,7 +3,7 @@ use Rattle.std.specs.Prelude.{vec_len}
 use Rattle.std.proofs.lemmas.Result.{err_from_is_err_and}
 use Rattle.combiner.specs.Standing.{callers_of}
 use Rattle.script_main.specs.Workers.{IsSettleFault}
-use Rattle.script_main.proofs.StopLemmas.{handed-out}
+use Rattle.script_lines.proofs.FaultLemmas.{handed-out}
 use Rattle.script_main.proofs.EndLemmas.{worked_machines, met_closer, met_alone, closes}
 use Rattle.script_main.proofs.settle.settle.Goals as goal
 

@@ -1,6 +1,6 @@
 use Rattle.std.proofs.Common.{◌≡◌, Result, Err, sym, ap, ◌∙◌, subst}
-use Rattle.script_main.specs.declared.fault.RunFault.{RunFault}
-use Rattle.script_main.specs.Runs.{IsCounted}
+use Rattle.script_lines.specs.declared.fault.RunFault.{RunFault}
+use Rattle.script_lines.specs.Runs.{IsCounted}
 use Rattle.std.proofs.lemmas.Result.{err_from_is_err_and}
 use Rattle.script_main.proofs.SharedLemmas.{reports, counts, unread_counts}
 use Rattle.script_main.proofs.shared.run_shared.Goals as goal

@@ -2,7 +2,7 @@ use Rattle.std.proofs.Common.{rules, arith, ◌≡◌, length, sym, ap, ◌∙�
 use Rattle.std.specs.Prelude.{vec_len}
 use Rattle.std.proofs.lemmas.List.{length-map}
 use Rattle.combiner.specs.Standing.{callers_of}
-use Rattle.script_main.specs.Readings.{lists_of}
+use Rattle.script_lines.specs.Readings.{lists_of}
 use Rattle.script_main.proofs.JobLemmas.{newcomers_length, jobs_new, ends_each, ends_size, settled_for}
 use Rattle.script_main.proofs.GateLemmas.{faults, finishes}
 use Rattle.script_main.proofs.threads.run_threads.Goals as goal

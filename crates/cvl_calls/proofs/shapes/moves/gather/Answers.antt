@@ -20,11 +20,11 @@ gather-tested kind a i v places n tested held index same was =
     let next : Unit {0} → Result Effect Fault = λ each. Ok (Stores (over_items (λ X xs. gathered places xs) v)) in
     ap (λ (r : Result (Unit {0}) Fault). r >>= next) (was ∙ ap (λ (m : ℕ). check (list_all (is_place m) places) BadIndex) same) ∙ rw (← held, ← index) refl
 
-pub returns-in_err-within-clause-gives : goal.returns-in_err-within-clause-gives
-returns-in_err-within-clause-gives c =
+pub returns-in_err-within : goal.returns-in_err-within
+returns-in_err-within c =
     let told = gather-tested c.args.kind (Held (value_at c.args.memory.now c.args.a.now)) (Held (value_at c.args.memory.now c.args.i.now)) _ _ _ _ c.in_ok-xs.ensures.items c.in_ok-places.ensures.items c.len.ensures c.in_err-within.ensures.fault in
     search rules
 
-pub returns-clause-gives : goal.returns-clause-gives
-returns-clause-gives c =
-    gather-tested c.args.kind (Held (value_at c.args.memory.now c.args.a.now)) (Held (value_at c.args.memory.now c.args.i.now)) _ _ _ _ c.in_ok-xs.ensures.items c.in_ok-places.ensures.items c.len.ensures c.in_ok-within.ensures.fault
+pub returns : goal.returns
+returns c =
+    (gather-tested c.args.kind (Held (value_at c.args.memory.now c.args.a.now)) (Held (value_at c.args.memory.now c.args.i.now)) _ _ _ _ c.in_ok-xs.ensures.items c.in_ok-places.ensures.items c.len.ensures c.in_ok-within.ensures.fault, search rules, search rules)

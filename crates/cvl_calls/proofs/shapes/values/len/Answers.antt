@@ -10,9 +10,9 @@ overflow_cast-result c =
     let small = c.memories_are_lawful.ensures.lawful_limit in
     search rules
 
-pub returns-clause-gives : goal.returns-clause-gives
+pub returns : goal.returns
 unfolding len
-returns-clause-gives c =
+returns c =
     let few = size_few c.args.memory.now.limit (content_of c.in_ok-value.value.now) c.in_ok-value.ensures.fits in
     let small = c.memories_are_lawful.ensures.lawful_limit in
     search rules

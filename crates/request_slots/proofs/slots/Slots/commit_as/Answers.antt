@@ -8,15 +8,14 @@ use Rattle.request_slots.specs.Passes.{is_in}
 use Rattle.request_slots.specs.Lawful.{Lawful}
 use Rattle.request_slots.specs.Views.{known_of, pass_in, HasDesk}
 use Rattle.request_slots.specs.Events.{Commits}
-use Rattle.request_slots.specs.Seating.{Seated}
 use Rattle.request_slots.proofs.Committing.{commits_line}
-use Rattle.request_slots.proofs.Sitting.{first_word}
+use Rattle.request_slots.proofs.Sitting.{sits_at, first_word}
 use Rattle.request_slots.proofs.slots.Slots.commit_as.Goals as goal
 
 pub store-requires : goal.store-requires
 store-requires g c = let seated = c.seat.invariant in
-    let same : c.seat.inside.seat.table_id ≡ c.self.inside.table.shared.table_id = ap (λ (z : Seated). z.table_id) c.seat.view_is ∙ (c.requires.place ∙ sym c.self.view_is) in
-    let known : known_of c.seat.inside.seat.me.0 ≡ c.args.seat.now.known = ap (λ (z : Seated). z.known) c.seat.view_is in
+    let same = sits_at seated c.seat.view_is c.requires.place c.self.view_is in
+    let known : known_of c.seat.inside.seat.me.0 ≡ c.args.seat.now = c.seat.view_is in
     let slots : c.args.self.now.slots ≡ c.self.inside.table.shared.table_id.slots = ap (λ (z : TableId). z.slots) (sym c.self.view_is) in
     let desk : HasDesk (known_of c.seat.inside.seat.me.0) = subst HasDesk (sym known) c.requires.desk in (
       same,
@@ -25,5 +24,5 @@ store-requires g c = let seated = c.seat.invariant in
           (ap length (sym c.requires.batch.0) ∙ sym c.len-length.ensures.len)
           (commits_line c.self.inside.table.shared.key c.self.inside.table.shared.table_id.slots c.seat.inside.seat.id c.seat.inside.seat.me g.B.Batch.line g.B.Batch.outcomes seated.is_caller desk (ap (λ (k : Known). (pass_in k).committed) known ∙ c.requires.open)
           (λ i near. ap (λ (k : Known). is_in (pass_in k).tried i) known ∙ c.requires.tried i (subst (λ (n : ℕ). i + 1 < n) (ap (λ (z : TableId). z.slots) c.self.view_is) near))
-          (subst (λ (k : Known). Fits k.room (pass_in k).line (pass_in k).taken g.B.Batch.line g.B.Batch.outcomes) (sym known) c.requires.fits)),
+          (subst (λ (k : Known). Fits k.standing.room (pass_in k).line (pass_in k).taken g.B.Batch.line g.B.Batch.outcomes) (sym known) c.requires.fits)),
     )

@@ -1,0 +1,31 @@
+use Rattle.std.proofs.Common.{◌≡◌, ◌++◌, ◌∷◌, [], sym, ap, ◌∙◌}
+use Rattle.cvl_text.specs.Tasks.{task_of}
+use Rattle.cvl_calls.specs.Steps.{stepped}
+use Rattle.call_history.specs.Books.{memory_of}
+use Rattle.call_history.specs.History.{replay}
+use Rattle.call_history.specs.Callers.{next_entry}
+use Rattle.call_history.proofs.Replays.{room-stepped, replay-push}
+use Rattle.call_history.proofs.book.Book.run_with.Goals as goal
+
+pub invariant_of-self-2 : goal.invariant_of-self-2
+invariant_of-self-2 c =
+    let history = c.self.inside.entries.items in
+    let added = next_entry history c.args.caller c.args.call in
+    let items : c.enter-place.new.entries.items ≡ history ++ added ∷ [] = c.enter-place.ensures.items ∙ ap (λ es. es ++ next_entry es c.args.caller c.args.call ∷ []) c.reserve.ensures.items in
+    record {
+      replayed = replay-push c.self.inside.memory c.done.new.memory history added c.self.invariant.replayed (ap (λ s. s.memory) c.in-Ok-done.ensures.ok)
+          ∙ ap (λ es. replay c.done.new.memory.room es) (sym items);
+      ticketed = c.enter-place.ensures.ticketed;
+      lawful_callers = c.enter-place.ensures.lawful_callers;
+      counted = c.enter-place.ensures.counted;
+    }
+
+pub returns-clause-room : goal.returns-clause-room
+returns-clause-room c =
+    ap (λ s. s.memory.room) (sym c.in-Ok-done.ensures.ok) ∙ (room-stepped c.self.inside.memory (task_of c.args.call) ∙ ap (λ s. s.room) c.self.view_is)
+
+pub returns-clause-memory : goal.returns-clause-memory
+returns-clause-memory c =
+    let kept = invariant_of-self-2 c in
+    let task = task_of c.args.call in
+    sym kept.replayed ∙ (ap (λ s. s.memory) (sym c.in-Ok-done.ensures.ok) ∙ ap (λ m. (stepped m task).memory) (c.self.invariant.replayed ∙ ap memory_of c.self.view_is))

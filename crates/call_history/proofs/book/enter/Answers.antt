@@ -1,0 +1,21 @@
+use Rattle.std.proofs.Common.{◌≡◌, ◌+◌, ◌++◌, ◌∷◌, [], length, slice_index, refl, subst, sym, ap, ◌∙◌, arith}
+use Rattle.call_history.specs.History.{entry}
+use Rattle.call_history.specs.Callers.{IsTicketed, calls_by}
+use Rattle.call_history.proofs.CallerLemmas.{calls_by-le, ticketed-push}
+use Rattle.call_history.proofs.book.enter.Goals as goal
+
+pub overflow_add-ticket : goal.overflow_add-ticket
+overflow_add-ticket c =
+    let few = calls_by-le c.args.caller c.args.entries.now.items in
+    let known = ap (λ t. slice_index t c.args.caller) c.deref.ensures ∙ c.requires.counted c.args.caller c.requires.caller in
+    let held = c.args.entries.now.ok in
+    let small = c.args.entries.now.small in
+    omega arith
+
+pub returns-clause-ticketed : goal.returns-clause-ticketed
+returns-clause-ticketed c =
+    let history = c.args.entries.now.items in
+    let added = entry c.args.caller (length (calls_by c.args.caller history)) c.args.call in
+    let known = ap (λ t. slice_index t c.args.caller) c.deref.ensures ∙ c.requires.counted c.args.caller c.requires.caller in
+    let items : c.push_reserved.new.self.items ≡ history ++ added ∷ [] = c.push_reserved.ensures.items ∙ ap (λ n. history ++ entry c.args.caller n c.args.call ∷ []) known in
+    subst IsTicketed (sym items) (ticketed-push history added c.requires.ticketed refl)

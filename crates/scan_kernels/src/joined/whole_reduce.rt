@@ -1,0 +1,83 @@
+//! The reduction of each part, which is one segment.
+
+ghost use Rattle.std.specs.Prelude.{◌≡◌, length, map, IfOk};
+ghost use Rattle.std.specs.List.{flat_map};
+ghost use Rattle.segment_desc.specs.Appended.{IsExact};
+ghost use Rattle.item_operations.specs.BooleanScans.{combine_b, unit_b};
+ghost use Rattle.item_operations.specs.IntegerScans.{combine_z, unit_z};
+ghost use Rattle.scan_kernels.specs.Metering.{CountsRun};
+ghost use Rattle.scan_kernels.specs.Segmented.{reduced, segmented_reduce};
+
+use crate::choices::{by_name, by_scan_b, by_scan_z};
+use crate::execution::Execution;
+use crate::meter::Meter;
+use crate::reduce::reduce_segment;
+use item_operations::{Combine, ScanB, ScanZ};
+use segment_desc::OutOfMemory;
+use std::alloc::{AllocError, Global};
+
+/// What the operation makes of each part of integers, which is one segment: one run, which gives an item for each part.
+pub fn reduce_whole_z_joined(
+    _execution: &impl Execution,
+    alloc: Global,
+    meter: &mut Meter,
+    op: ScanZ,
+    parts: &[&[i64]],
+) -> Result<Vec<i64>, OutOfMemory>
+    ensures parts { IfOk result (λ made. made.items ≡ map (λ p. reduced (combine_z op) (unit_z op) p.now) parts.now) }
+    ensures joined { IfOk result (λ made. made.items ≡ segmented_reduce (combine_z op) (unit_z op) (map (λ p. length p.now) parts.now) (flat_map (λ p. p.now) parts.now)) }
+    ensures exact { IfOk result (λ made. IsExact made) }
+    ensures counted { CountsRun result meter.old meter.new }
+{
+    let made = chosen_parts_z(alloc, op, parts)?;
+    meter.raise();
+    Ok(made)
+}
+
+fn chosen_parts_z(alloc: Global, op: ScanZ, parts: &[&[i64]]) -> Result<Vec<i64>, AllocError>
+    ensures parts { IfOk result (λ made. made.items ≡ map (λ p. reduced (combine_z op) (unit_z op) p.now) parts.now) }
+    ensures exact { IfOk result (λ made. IsExact made) }
+{
+    by_scan_z!(op, reduce_parts(alloc, op, parts))
+}
+
+/// What the operation makes of each part of truth values, which is one segment: one run, which gives an item for each part.
+pub fn reduce_whole_b_joined(
+    _execution: &impl Execution,
+    alloc: Global,
+    meter: &mut Meter,
+    op: ScanB,
+    parts: &[&[bool]],
+) -> Result<Vec<bool>, OutOfMemory>
+    ensures parts { IfOk result (λ made. made.items ≡ map (λ p. reduced (combine_b op) (unit_b op) p.now) parts.now) }
+    ensures joined { IfOk result (λ made. made.items ≡ segmented_reduce (combine_b op) (unit_b op) (map (λ p. length p.now) parts.now) (flat_map (λ p. p.now) parts.now)) }
+    ensures exact { IfOk result (λ made. IsExact made) }
+    ensures counted { CountsRun result meter.old meter.new }
+{
+    let made = chosen_parts_b(alloc, op, parts)?;
+    meter.raise();
+    Ok(made)
+}
+
+fn chosen_parts_b(alloc: Global, op: ScanB, parts: &[&[bool]]) -> Result<Vec<bool>, AllocError>
+    ensures parts { IfOk result (λ made. made.items ≡ map (λ p. reduced (combine_b op) (unit_b op) p.now) parts.now) }
+    ensures exact { IfOk result (λ made. IsExact made) }
+{
+    by_scan_b!(op, reduce_parts(alloc, op, parts))
+}
+
+#[inline(always)]
+fn reduce_parts<O: Combine>(
+    alloc: Global,
+    op: O,
+    parts: &[&[O::Item]],
+) -> Result<Vec<O::Item>, AllocError>
+    ensures parts { IfOk result (λ made. made.items ≡ map (λ p. reduced (O.combined op) (O.unit_of op) p.now) parts.now) }
+    ensures exact { IfOk result (λ made. IsExact made) }
+{
+    let mut made = Vec::with_capacity(alloc, parts.len())?;
+    for part in parts {
+        made.push_reserved(reduce_segment(op, part));
+    }
+    Ok(made)
+}

@@ -1,0 +1,9 @@
+pub mod AgainLemmas
+pub mod FaultLemmas
+pub mod FeedLemmas
+pub mod PieceLemmas
+pub mod WalkLemmas
+pub mod ServeLemmas
+pub mod ReadLemmas
+pub mod StreamLemmas
+pub mod CallLemmas

@@ -1,0 +1,17 @@
+use Rattle.std.proofs.Common.{◌≡◌, ◌≤◌, IfSome, vec_len}
+use Rattle.call_history.specs.Callers.{caller_limit}
+use Rattle.script_lines.specs.Walks.{IsCountable, work_left}
+use Rattle.script_lines.specs.Readings.{lists_of, HasRead}
+use Rattle.script_lines.proofs.reading.read_input.Given as goal
+
+abbrev pub invariant-loop-lines : goal.invariant-loop-lines
+invariant-loop-lines g l = record {
+  countable : IsCountable l.lines.walk (g.R.Source.limit l.reader);
+  readable : g.R.Source.can_read l.reader;
+  reads : g.R.Source.failures l.reader ≡ g.R.Source.failures l.fn.reader;
+  few : vec_len l.calls ≤ caller_limit;
+  read : IfSome (g.R.Source.rest l.fn.reader) (λ input. HasRead input (g.R.Source.rest l.reader) l.lines.walk (lists_of l.calls));
+}
+
+abbrev pub decreases-loop-lines : goal.decreases-loop-lines
+decreases-loop-lines g l = work_left l.lines.walk (g.R.Source.limit l.reader)

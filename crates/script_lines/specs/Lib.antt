@@ -1,0 +1,6 @@
+pub mod Scripts
+pub mod Asks
+pub mod Streams
+pub mod Walks
+pub mod Runs
+pub mod Readings

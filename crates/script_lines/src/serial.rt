@@ -1,0 +1,81 @@
+//! A script on one book.
+
+ghost use Rattle.std.specs.Prelude.{[], ◌≡◌, IfSome};
+ghost use Rattle.vector_memory.specs.States.{IsLawfulRoom, empty};
+ghost use Rattle.call_history.specs.Books.{memory_of};
+ghost use Rattle.script_lines.specs.Runs.{HasEnded, Counts, UnlessWrite, Runs, IsCounted};
+
+use crate::fault::{InputFault, RunFault, ServeFault};
+use crate::lines::Lines;
+use crate::run::Run;
+use crate::streams::{Sink, Source};
+use scan_kernels::Execution;
+use std::alloc::Global;
+
+/// Serves each line of an input, and writes the replies to what was read before more is read.
+fn serve_input<R: Source, W: Sink>(
+    execution: &impl Execution,
+    alloc: Global,
+    run: &mut Run,
+    reader: &mut R,
+    writer: &mut W,
+) -> Result<(), ServeFault>
+    requires waiting { run.old.waiting.items ≡ [] }
+    requires readable { R.can_read reader.old }
+    requires writable { W.can_write writer.old }
+    ensures ended { IfSome (R.rest reader.old) (λ input. HasEnded result (memory_of run.old.book) input
+        (R.rest reader.new) (W.written writer.old) (W.written writer.new) run.new.waiting.items) }
+    ensures counted { Counts result (R.failures reader.old) (R.failures reader.new) (W.failures writer.old) (W.failures writer.new) }
+    ensures writable { UnlessWrite result (W.can_write writer.new) }
+{
+    let Ok(mut lines) = Lines::new(alloc) else {
+        return Err(ServeFault::Input(InputFault::OutOfMemory));
+    };
+    while run.serve_next(execution, alloc, &mut lines, reader, writer)? {}
+    Ok(())
+}
+
+/// Runs a script on a run that has served nothing.
+pub fn run_script<R: Source, W: Sink>(
+    execution: &impl Execution,
+    alloc: Global,
+    run: &mut Run,
+    reader: &mut R,
+    writer: &mut W,
+) -> Result<(), RunFault>
+    requires waiting { run.old.waiting.items ≡ [] }
+    requires readable { R.can_read reader.old }
+    requires writable { W.can_write writer.old }
+    ensures runs { IfSome (R.rest reader.old) (λ input. Runs result (memory_of run.old.book) input
+        (R.rest reader.new) (W.written writer.old) (W.written writer.new)) }
+    ensures counted { IsCounted result (R.failures reader.old) (R.failures reader.new)
+        (W.failures writer.old) (W.failures writer.new) }
+{
+    let ended = serve_input(execution, alloc, run, reader, writer);
+    run.finish(ended, writer)
+}
+
+/// Runs a script on one book, whose memory has this room, and writes the reply to each line that is not skipped.
+///
+/// The replies to all lines that were read are written before more is read. It ends at the first bad line, for want of
+/// memory, and where a read or a write fails; `Runs` says what is written then.
+pub fn run_serial<R: Source, W: Sink>(
+    execution: &impl Execution,
+    alloc: Global,
+    room: u64,
+    reader: &mut R,
+    writer: &mut W,
+) -> Result<(), RunFault>
+    requires room { IsLawfulRoom room }
+    requires readable { R.can_read reader.old }
+    requires writable { W.can_write writer.old }
+    ensures runs { IfSome (R.rest reader.old) (λ input. Runs result (empty room) input
+        (R.rest reader.new) (W.written writer.old) (W.written writer.new)) }
+    ensures counted { IsCounted result (R.failures reader.old) (R.failures reader.new)
+        (W.failures writer.old) (W.failures writer.new) }
+{
+    let Ok(mut run) = Run::new(alloc, room) else {
+        return Err(RunFault::OutOfMemory);
+    };
+    run_script(execution, alloc, &mut run, reader, writer)
+}
