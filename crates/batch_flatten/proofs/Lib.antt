@@ -1,0 +1,4 @@
+pub mod Turning
+pub mod WaveLemmas
+pub mod ApartLemmas
+pub mod PlanLemmas

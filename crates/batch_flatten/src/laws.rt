@@ -1,0 +1,24 @@
+//! Laws of the definitions that the contracts cite: each function does nothing, and its contract is the law.
+
+ghost use Rattle.std.specs.Prelude.{◌≡◌, ◌<◌, ℕ, List, Some, false, slice_get, slice_index};
+ghost use Rattle.vector_memory.specs.States.{State};
+ghost use Rattle.cvl_text.specs.Tasks.{Task};
+ghost use Rattle.cvl_calls.specs.Steps.{work_on};
+ghost use Rattle.batch_flatten.specs.Waves.{clashes, waves_of};
+ghost use Rattle.batch_flatten.specs.Turns.{memory_after, answers_after, memory_done, answers_done, ReadsNoTarget, IsWave};
+
+/// A call that reads the target of none of the calls before it makes of the memory before them what it makes at its own turn.
+/// So calls of which none reads the target of an earlier one leave and reply what they leave and reply one after the other,
+/// where all of them see the memory before the first.
+pub fn waves_are_turns()
+    ensures work { (m : State) (before : List Task) (t : Task) → ReadsNoTarget before t
+        → work_on (memory_after m before) t ≡ work_on m t }
+    ensures memory { (m : State) (ts : List Task) → IsWave ts → memory_done m m ts ≡ memory_after m ts }
+    ensures answers { (m : State) (ts : List Task) → IsWave ts → answers_done m m ts ≡ answers_after m ts }
+{}
+
+/// Of two calls of one wave the later does not read the target of the earlier.
+pub fn waves_keep_apart()
+    ensures { (ts : List Task) (i j : ℕ) (t u : Task) → i < j → slice_get ts i ≡ Some t → slice_get ts j ≡ Some u
+        → slice_index (waves_of ts) i ≡ slice_index (waves_of ts) j → clashes t u ≡ false }
+{}
