@@ -8,16 +8,11 @@ use Rattle.std.proofs.lemmas.List.Elements.{filter-append}
 use Rattle.std.proofs.lemmas.List.Sums.{sum_by-cons}
 use Rattle.segment_desc.specs.Cut.{cut}
 use Rattle.scan_kernels.proofs.CutLists.{cut-append}
+use Rattle.scan_kernels.proofs.Joining.{zip-append}
 use Rattle.permute_kernels.specs.Gathered.{gathered, segmented_gather}
 use Rattle.permute_kernels.specs.Packed.{number_set, numbers_set, packed}
 use Rattle.permute_kernels.specs.Permuted.{permuted, segmented_permute}
 use Rattle.permute_kernels.proofs.Segments.{length_cut}
-
-zip-append : {X Y : Type 0} (xs us : List X) (ys vs : List Y) → length xs ≡ length ys → zip (xs ++ us) (ys ++ vs) ≡ zip xs ys ++ zip us vs
-zip-append [] us [] vs same = refl
-zip-append [] us (y ∷ ys) vs same = absurd (omega arith)
-zip-append (x ∷ xs) us [] vs same = absurd (omega arith)
-zip-append (x ∷ xs) us (y ∷ ys) vs same = ap (λ l. (x, y) ∷ l) (zip-append xs us ys vs (omega arith))
 
 module _ {X : Type 0} where
   pub segmented_permute-append : (ks ls : List ℕ) (is js : List ℤ) (xs ys : List X) → sum ks ≡ length is → sum ks ≡ length xs

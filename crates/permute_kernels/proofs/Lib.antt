@@ -3,6 +3,7 @@ pub mod Gathering
 pub mod Joining
 pub mod Marking
 pub mod Packing
+pub mod Parts
 pub mod Placing
 pub mod Segments
 pub mod Sending

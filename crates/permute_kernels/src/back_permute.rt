@@ -59,7 +59,7 @@ pub fn back_permute_b(
     Ok(made)
 }
 
-fn gather_each<T: Copy + Send + Sync>(
+pub(crate) fn gather_each<T: Copy + Send + Sync>(
     alloc: Global,
     items: &[T],
     source: &[usize],

@@ -48,7 +48,7 @@ pub fn gather_b(
     Ok(made)
 }
 
-fn gathered<T: Copy + Send + Sync>(
+pub(crate) fn gathered<T: Copy + Send + Sync>(
     alloc: Global,
     items: &[T],
     index: &[i64],

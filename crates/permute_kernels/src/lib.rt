@@ -9,9 +9,11 @@
 mod back_permute;
 mod conditions;
 mod gather;
+mod joined;
 pub mod laws;
 mod pack;
 mod permute;
+mod permute_whole;
 mod place;
 #[cfg(test)]
 mod tests;
@@ -19,5 +21,12 @@ mod tests;
 pub use back_permute::{back_permute_b, back_permute_z};
 pub use conditions::{are_places, in_range, is_permutation, is_whole_permutation};
 pub use gather::{gather_b, gather_z};
+pub use joined::back_permute::BackPermute;
+pub use joined::gather::Gather;
+pub use joined::pack::{Pack, PackSegments};
+pub use joined::packed_lengths::PackLengths;
+pub use joined::permute::Permute;
+pub use joined::permute_whole::PermuteWhole;
 pub use pack::{pack_b, pack_z, packed_lengths};
 pub use permute::{permute_b, permute_z};
+pub use permute_whole::{permute_whole_b, permute_whole_z};

@@ -10,7 +10,7 @@ use segment_desc::{OutOfMemory, Segd, append_reserved};
 use std::alloc::{AllocError, Global};
 
 /// Items are packed, and their flags counted by a byte, so many at a time.
-const BLOCK: usize = 128;
+pub(crate) const BLOCK: usize = 128;
 
 /// The integers whose flag is set, in order. There are as many flags as integers. A pass that counts the flags, and one
 /// into a vector of the final size.
@@ -69,7 +69,7 @@ pub fn packed_lengths(
 
 // Block by block, through a buffer that stays near.
 #[inline(always)]
-fn kept<T: Copy + Send + Sync>(
+pub(crate) fn kept<T: Copy + Send + Sync>(
     alloc: Global,
     items: &[T],
     flags: &[bool],
@@ -120,7 +120,11 @@ fn compress<T: Copy + Send + Sync>(items: &[T], flags: &[bool], buffer: &mut [T]
     many
 }
 
-fn count_each(alloc: Global, flags: &[bool], lengths: &[usize]) -> Result<Vec<i64>, AllocError>
+pub(crate) fn count_each(
+    alloc: Global,
+    flags: &[bool],
+    lengths: &[usize],
+) -> Result<Vec<i64>, AllocError>
     requires total { sum lengths.now ≡ length flags.now }
     requires small { length flags.now < 2 ^ 63 }
     ensures items { IfOk result (λ v. v.items ≡ numbers_set lengths.now flags.now) }

@@ -4,7 +4,7 @@ ghost use Rattle.std.specs.Prelude.{◌≡◌, length, sum, IfOk};
 ghost use Rattle.segment_desc.specs.Appended.{IsExact};
 ghost use Rattle.scan_kernels.specs.Metering.{CountsRun};
 ghost use Rattle.permute_kernels.specs.Indices.{HoldsEachPlaceOnce, PermuteSegments};
-ghost use Rattle.permute_kernels.specs.Permuted.{IsPermuted, IsPermutedBySegments, segmented_permute};
+ghost use Rattle.permute_kernels.specs.Permuted.{IsPermuted, IsPermutedBySegments, permuted, segmented_permute};
 
 use crate::place::place_of;
 use scan_kernels::{Execution, Meter};
@@ -57,7 +57,7 @@ pub fn permute_b(
     Ok(made)
 }
 
-fn permuted<T: Copy + Send + Sync>(
+pub(crate) fn permuted<T: Copy + Send + Sync>(
     alloc: Global,
     items: &[T],
     index: &[i64],
@@ -98,11 +98,12 @@ fn scatter_each<T: Copy + Send + Sync>(
 }
 
 #[inline(always)]
-fn scatter<T: Copy + Send + Sync>(items: &[T], index: &[i64], made: &mut [T])
+pub(crate) fn scatter<T: Copy + Send + Sync>(items: &[T], index: &[i64], made: &mut [T])
     requires same_length { length index.now ≡ length items.now }
     requires room { length made.old ≡ length items.now }
     requires each_once { HoldsEachPlaceOnce index.now }
-    ensures { IsPermuted index.now items.now made.new }
+    ensures permute { made.new ≡ permuted index.now items.now }
+    ensures places { IsPermuted index.now items.now made.new }
 {
     for i in 0..items.len() {
         made[place_of(index[i])] = items[i];

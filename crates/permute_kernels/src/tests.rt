@@ -1,6 +1,7 @@
 //! Each public kernel and test of indices on small vectors, with the count of runs.
 
 mod indices;
+mod joined;
 mod moves;
 mod packs;
 

@@ -1,6 +1,6 @@
 -- On joined operands a kernel gives what it gives on each part, joined: `map-joined`, `item_by_item-joined`, `selected-joined`,
 -- `distributed-joined`, `segmented_index-joined`, `segmented_scan-joined`, `segmented_reduce-joined`. Where each part is one
--- segment: `scanned-joined`, `reduced-joined`, `replicate-joined`, `indexed-joined`.
+-- segment: `scanned-joined`, `reduced-joined`, `replicate-joined`, `indexed-joined`. Lists of parts: `zip-append`, `cut-wholes`.
 use Rattle.std.proofs.Common.{◌≡◌, ℕ, ℤ, List, [], ◌∷◌, ◌++◌, length, get_or, drop, map, replicate, sum, refl, sym, ap, ◌∙◌, All, zip, Bool, arith}
 use Rattle.std.specs.List.{flat_map, AllByRecursion}
 use Rattle.std.proofs.lemmas.List.{map-append}
@@ -22,7 +22,7 @@ module _ {P X Y : Type 0} (f : X → Y) (first : P → List X) where
   map-joined [] = refl
   map-joined (p ∷ ps) = ap (λ (l : List Y). map f (first p) ++ l) (map-joined ps) ∙ sym (map-append f (first p) (flat_map first ps))
 
-zip-append : {X Y : Type 0} (xs more : List X) (ys others : List Y) → length xs ≡ length ys → zip (xs ++ more) (ys ++ others) ≡ zip xs ys ++ zip more others
+pub zip-append : {X Y : Type 0} (xs more : List X) (ys others : List Y) → length xs ≡ length ys → zip (xs ++ more) (ys ++ others) ≡ zip xs ys ++ zip more others
 zip-append [] more [] others h = refl
 zip-append [] more (y ∷ ys) others h = absurd (omega arith)
 zip-append (x ∷ xs) more [] others h = absurd (omega arith)
@@ -101,7 +101,8 @@ module _ {P X : Type 0} (op : X → X → X) (u : X) (lengths : P → List ℕ) 
   segmented_reduce-joined parts h = reductions parts (recursion_from_All _ parts h)
 
 module _ {P X : Type 0} (items : P → List X) where
-  cut-wholes : (parts : List P) → cut (map (λ p. length (items p)) parts) (flat_map items parts) ≡ map items parts
+  -- joined lists are cut into the parts that they were joined of
+  pub cut-wholes : (parts : List P) → cut (map (λ p. length (items p)) parts) (flat_map items parts) ≡ map items parts
   cut-wholes [] = refl
   cut-wholes (p ∷ ps) =
       let later = flat_map items ps in

@@ -1,3 +1,4 @@
+pub mod ByChoice
 pub mod Chosen
 pub mod CutLists
 pub mod Joining

@@ -1,5 +1,4 @@
-//! The kernels on operands that lie in parts, as those of alike calls do: one run over the joined parts, whose result lies in
-//! parts as well, each in a vector of its own. Nothing is copied, and an operation is chosen once for all parts.
+//! The kernels as values, each for the parts that it takes.
 
 pub mod compare;
 pub mod convert;

@@ -1,6 +1,7 @@
 //! Each public kernel on small vectors, with the count of runs.
 
 mod elementwise;
+mod joined;
 mod policies;
 mod scans;
 mod spreads;

@@ -3,7 +3,7 @@
 use super::cut;
 use crate::{
     are_places, back_permute_b, back_permute_z, gather_b, gather_z, in_range, is_permutation,
-    permute_b, permute_z,
+    is_whole_permutation, permute_b, permute_whole_b, permute_whole_z, permute_z,
 };
 use scan_kernels::{Meter, Sequential};
 use std::alloc::Global;
@@ -90,6 +90,27 @@ fn permutes_truth_values(rt: HostRuntime) -> Result<(), Fail> {
     .map_err(|_| "refused")?;
     assert_eq!(rt; made.as_slice(), [false, true].as_slice());
     assert_eq!(rt; meter.runs(), 1);
+    Ok(())
+}
+
+#[test]
+fn permutes_with_no_segment_list(rt: HostRuntime) -> Result<(), Fail> {
+    let mut meter = Meter::new();
+    let index = [2, 0, 1];
+    let Ok(permutes) = is_whole_permutation(rt.alloc(), &index) else {
+        return Err("refused".into());
+    };
+    assert!(rt; permutes);
+    let made = permute_whole_z(&rt, rt.alloc(), &mut meter, &[10, 20, 30], &index).map_err(
+        |_| "refused",
+    )?;
+    assert_eq!(rt; made.as_slice(), [20i64, 30, 10].as_slice());
+    assert_eq!(rt; meter.runs(), 1);
+    let made = permute_whole_b(&rt, rt.alloc(), &mut meter, &[true, false, false], &index).map_err(
+        |_| "refused",
+    )?;
+    assert_eq!(rt; made.as_slice(), [false, false, true].as_slice());
+    assert_eq!(rt; meter.runs(), 2);
     Ok(())
 }
 

@@ -1,25 +1,18 @@
 //! Each value as often as its segment is long, on operands that lie in parts.
 
-ghost use Rattle.std.specs.Prelude.{◌≡◌, length, map, All, IfOk};
-ghost use Rattle.std.specs.List.{flat_map};
-ghost use Rattle.segment_desc.specs.Appended.{IsExact};
-ghost use Rattle.segment_desc.specs.Cut.{joined};
+ghost use Rattle.std.specs.Prelude.{◌≡◌, length};
 ghost use Rattle.scan_kernels.specs.Distributed.{distributed};
-ghost use Rattle.scan_kernels.specs.Metering.{CountsRun};
-ghost use Rattle.scan_kernels.specs.Parts.{parts_made};
 
 use crate::distribute::distribute;
-use crate::execution::Execution;
-use crate::meter::Meter;
-use crate::parts::{Kernel, run_each};
-use segment_desc::{OutOfMemory, Segd};
+use crate::kernel::{JoinedKernel, Kernel, run_parts};
+use segment_desc::Segd;
 use std::alloc::{AllocError, Global};
 
-// Each value as often as its segment is long.
+/// Each value as often as its segment is long.
 #[derive(Clone, Copy)]
-struct Spread;
+pub struct Distribute;
 
-impl<'a> Kernel<(&'a [i64], &'a Segd)> for Spread {
+impl<'a> Kernel<(&'a [i64], &'a Segd)> for Distribute {
     type Item = i64;
 
     ghost Takes = { λ kernel p. length p.1.now ≡ length p.0.now };
@@ -32,7 +25,17 @@ impl<'a> Kernel<(&'a [i64], &'a Segd)> for Spread {
     }
 }
 
-impl<'a> Kernel<(&'a [bool], &'a Segd)> for Spread {
+impl<'a> JoinedKernel<(&'a [i64], &'a Segd)> for Distribute {
+    fn run_each(
+        self,
+        alloc: Global,
+        parts: &[(&'a [i64], &'a Segd)],
+    ) -> Result<Vec<Vec<i64>>, AllocError> {
+        run_parts(alloc, self, parts)
+    }
+}
+
+impl<'a> Kernel<(&'a [bool], &'a Segd)> for Distribute {
     type Item = bool;
 
     ghost Takes = { λ kernel p. length p.1.now ≡ length p.0.now };
@@ -45,40 +48,12 @@ impl<'a> Kernel<(&'a [bool], &'a Segd)> for Spread {
     }
 }
 
-/// Integer j of a part as often as segment j of the part is long: one run, whose result lies in parts as well. A part has as many
-/// values as segments.
-pub fn distribute_z_joined(
-    _execution: &impl Execution,
-    alloc: Global,
-    meter: &mut Meter,
-    parts: &[(&[i64], &Segd)],
-) -> Result<Vec<Vec<i64>>, OutOfMemory>
-    requires { All (λ p. length p.1.now ≡ length p.0.now) parts.now }
-    ensures parts { IfOk result (λ made. parts_made made.items ≡ map (λ p. distributed p.1.now p.0.now) parts.now) }
-    ensures joined { IfOk result (λ made. joined (parts_made made.items) ≡ distributed (flat_map (λ p. p.1.now) parts.now) (flat_map (λ p. p.0.now) parts.now)) }
-    ensures exact { IfOk result (λ made. All IsExact made.items) }
-    ensures counted { CountsRun result meter.old meter.new }
-{
-    let made = run_each(alloc, Spread, parts)?;
-    meter.raise();
-    Ok(made)
-}
-
-/// Truth value j of a part as often as segment j of the part is long: one run, whose result lies in parts as well. A part has as many
-/// values as segments.
-pub fn distribute_b_joined(
-    _execution: &impl Execution,
-    alloc: Global,
-    meter: &mut Meter,
-    parts: &[(&[bool], &Segd)],
-) -> Result<Vec<Vec<bool>>, OutOfMemory>
-    requires { All (λ p. length p.1.now ≡ length p.0.now) parts.now }
-    ensures parts { IfOk result (λ made. parts_made made.items ≡ map (λ p. distributed p.1.now p.0.now) parts.now) }
-    ensures joined { IfOk result (λ made. joined (parts_made made.items) ≡ distributed (flat_map (λ p. p.1.now) parts.now) (flat_map (λ p. p.0.now) parts.now)) }
-    ensures exact { IfOk result (λ made. All IsExact made.items) }
-    ensures counted { CountsRun result meter.old meter.new }
-{
-    let made = run_each(alloc, Spread, parts)?;
-    meter.raise();
-    Ok(made)
+impl<'a> JoinedKernel<(&'a [bool], &'a Segd)> for Distribute {
+    fn run_each(
+        self,
+        alloc: Global,
+        parts: &[(&'a [bool], &'a Segd)],
+    ) -> Result<Vec<Vec<bool>>, AllocError> {
+        run_parts(alloc, self, parts)
+    }
 }

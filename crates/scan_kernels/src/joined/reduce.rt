@@ -1,29 +1,22 @@
 //! The reduction of each segment, on operands that lie in parts.
 
-ghost use Rattle.std.specs.Prelude.{◌≡◌, length, map, sum, All, IfOk};
-ghost use Rattle.std.specs.List.{flat_map};
-ghost use Rattle.segment_desc.specs.Appended.{IsExact};
-ghost use Rattle.segment_desc.specs.Cut.{joined};
+ghost use Rattle.std.specs.Prelude.{◌≡◌, length, sum};
 ghost use Rattle.item_operations.specs.BooleanScans.{combine_b, unit_b};
 ghost use Rattle.item_operations.specs.IntegerScans.{combine_z, unit_z};
-ghost use Rattle.scan_kernels.specs.Metering.{CountsRun};
-ghost use Rattle.scan_kernels.specs.Parts.{parts_made};
 ghost use Rattle.scan_kernels.specs.Segmented.{segmented_reduce};
 
 use crate::choices::{by_name, by_scan_b, by_scan_z};
-use crate::execution::Execution;
-use crate::meter::Meter;
-use crate::parts::{Kernel, run_each};
+use crate::kernel::{JoinedKernel, Kernel, run_parts};
 use crate::reduce::reduce;
 use item_operations::{ScanB, ScanZ};
-use segment_desc::{OutOfMemory, Segd};
+use segment_desc::Segd;
 use std::alloc::{AllocError, Global};
 
-// The reduction of each segment of integers.
+/// The reduction of each segment of integers.
 #[derive(Clone, Copy)]
-struct ReduceInts(ScanZ);
+pub struct ReduceIntSegments(pub ScanZ);
 
-impl<'a> Kernel<(&'a [i64], &'a Segd)> for ReduceInts {
+impl<'a> Kernel<(&'a [i64], &'a Segd)> for ReduceIntSegments {
     type Item = i64;
 
     ghost Takes = { λ kernel p. sum p.1.now ≡ length p.0.now };
@@ -36,56 +29,22 @@ impl<'a> Kernel<(&'a [i64], &'a Segd)> for ReduceInts {
     }
 }
 
-/// What the operation makes of each segment of integers that lie in parts, each with its segment list: one run, whose result lies in
-/// parts as well. The segments of a part have all its items together.
-pub fn reduce_z_joined(
-    _execution: &impl Execution,
-    alloc: Global,
-    meter: &mut Meter,
-    op: ScanZ,
-    parts: &[(&[i64], &Segd)],
-) -> Result<Vec<Vec<i64>>, OutOfMemory>
-    requires { All (λ p. sum p.1.now ≡ length p.0.now) parts.now }
-    ensures parts { IfOk result (λ made. parts_made made.items ≡ map (λ p. segmented_reduce (combine_z op) (unit_z op) p.1.now p.0.now) parts.now) }
-    ensures joined { IfOk result (λ made. joined (parts_made made.items) ≡ segmented_reduce (combine_z op) (unit_z op) (flat_map (λ p. p.1.now) parts.now) (flat_map (λ p. p.0.now) parts.now)) }
-    ensures exact { IfOk result (λ made. All IsExact made.items) }
-    ensures counted { CountsRun result meter.old meter.new }
-{
-    let made = chosen_parts_z(alloc, op, parts)?;
-    meter.raise();
-    Ok(made)
+impl<'a> JoinedKernel<(&'a [i64], &'a Segd)> for ReduceIntSegments {
+    fn run_each(
+        self,
+        alloc: Global,
+        parts: &[(&'a [i64], &'a Segd)],
+    ) -> Result<Vec<Vec<i64>>, AllocError> {
+        let ReduceIntSegments(op) = self;
+        by_scan_z!(op, run_parts(alloc, ReduceIntSegments(op), parts))
+    }
 }
 
-fn chosen_parts_z(
-    alloc: Global,
-    op: ScanZ,
-    parts: &[(&[i64], &Segd)],
-) -> Result<Vec<Vec<i64>>, AllocError>
-    requires { All (λ p. sum p.1.now ≡ length p.0.now) parts.now }
-    ensures parts { IfOk result (λ made. parts_made made.items ≡ map (λ p. segmented_reduce (combine_z op) (unit_z op) p.1.now p.0.now) parts.now) }
-    ensures exact { IfOk result (λ made. All IsExact made.items) }
-{
-    by_scan_z!(op, reduce_parts_z(alloc, op, parts))
-}
-
-#[inline(always)]
-fn reduce_parts_z(
-    alloc: Global,
-    op: ScanZ,
-    parts: &[(&[i64], &Segd)],
-) -> Result<Vec<Vec<i64>>, AllocError>
-    requires { All (λ p. sum p.1.now ≡ length p.0.now) parts.now }
-    ensures parts { IfOk result (λ made. parts_made made.items ≡ map (λ p. segmented_reduce (combine_z op) (unit_z op) p.1.now p.0.now) parts.now) }
-    ensures exact { IfOk result (λ made. All IsExact made.items) }
-{
-    run_each(alloc, ReduceInts(op), parts)
-}
-
-// The reduction of each segment of truth values.
+/// The reduction of each segment of truth values.
 #[derive(Clone, Copy)]
-struct ReduceBools(ScanB);
+pub struct ReduceBoolSegments(pub ScanB);
 
-impl<'a> Kernel<(&'a [bool], &'a Segd)> for ReduceBools {
+impl<'a> Kernel<(&'a [bool], &'a Segd)> for ReduceBoolSegments {
     type Item = bool;
 
     ghost Takes = { λ kernel p. sum p.1.now ≡ length p.0.now };
@@ -98,47 +57,13 @@ impl<'a> Kernel<(&'a [bool], &'a Segd)> for ReduceBools {
     }
 }
 
-/// What the operation makes of each segment of truth values that lie in parts, each with its segment list: one run, whose result lies in
-/// parts as well. The segments of a part have all its items together.
-pub fn reduce_b_joined(
-    _execution: &impl Execution,
-    alloc: Global,
-    meter: &mut Meter,
-    op: ScanB,
-    parts: &[(&[bool], &Segd)],
-) -> Result<Vec<Vec<bool>>, OutOfMemory>
-    requires { All (λ p. sum p.1.now ≡ length p.0.now) parts.now }
-    ensures parts { IfOk result (λ made. parts_made made.items ≡ map (λ p. segmented_reduce (combine_b op) (unit_b op) p.1.now p.0.now) parts.now) }
-    ensures joined { IfOk result (λ made. joined (parts_made made.items) ≡ segmented_reduce (combine_b op) (unit_b op) (flat_map (λ p. p.1.now) parts.now) (flat_map (λ p. p.0.now) parts.now)) }
-    ensures exact { IfOk result (λ made. All IsExact made.items) }
-    ensures counted { CountsRun result meter.old meter.new }
-{
-    let made = chosen_parts_b(alloc, op, parts)?;
-    meter.raise();
-    Ok(made)
-}
-
-fn chosen_parts_b(
-    alloc: Global,
-    op: ScanB,
-    parts: &[(&[bool], &Segd)],
-) -> Result<Vec<Vec<bool>>, AllocError>
-    requires { All (λ p. sum p.1.now ≡ length p.0.now) parts.now }
-    ensures parts { IfOk result (λ made. parts_made made.items ≡ map (λ p. segmented_reduce (combine_b op) (unit_b op) p.1.now p.0.now) parts.now) }
-    ensures exact { IfOk result (λ made. All IsExact made.items) }
-{
-    by_scan_b!(op, reduce_parts_b(alloc, op, parts))
-}
-
-#[inline(always)]
-fn reduce_parts_b(
-    alloc: Global,
-    op: ScanB,
-    parts: &[(&[bool], &Segd)],
-) -> Result<Vec<Vec<bool>>, AllocError>
-    requires { All (λ p. sum p.1.now ≡ length p.0.now) parts.now }
-    ensures parts { IfOk result (λ made. parts_made made.items ≡ map (λ p. segmented_reduce (combine_b op) (unit_b op) p.1.now p.0.now) parts.now) }
-    ensures exact { IfOk result (λ made. All IsExact made.items) }
-{
-    run_each(alloc, ReduceBools(op), parts)
+impl<'a> JoinedKernel<(&'a [bool], &'a Segd)> for ReduceBoolSegments {
+    fn run_each(
+        self,
+        alloc: Global,
+        parts: &[(&'a [bool], &'a Segd)],
+    ) -> Result<Vec<Vec<bool>>, AllocError> {
+        let ReduceBoolSegments(op) = self;
+        by_scan_b!(op, run_parts(alloc, ReduceBoolSegments(op), parts))
+    }
 }

@@ -1,25 +1,17 @@
 //! The choice between two vectors item by item, on operands that lie in parts.
 
-ghost use Rattle.std.specs.Prelude.{◌≡◌, length, map, All, IfOk};
-ghost use Rattle.std.specs.List.{flat_map};
-ghost use Rattle.segment_desc.specs.Appended.{IsExact};
-ghost use Rattle.segment_desc.specs.Cut.{joined};
+ghost use Rattle.std.specs.Prelude.{◌≡◌, length};
 ghost use Rattle.scan_kernels.specs.Elementwise.{selected};
-ghost use Rattle.scan_kernels.specs.Metering.{CountsRun};
-ghost use Rattle.scan_kernels.specs.Parts.{parts_made};
 
-use crate::execution::Execution;
-use crate::meter::Meter;
-use crate::parts::{Kernel, run_each};
+use crate::kernel::{JoinedKernel, Kernel, run_parts};
 use crate::select::chosen;
-use segment_desc::OutOfMemory;
 use std::alloc::{AllocError, Global};
 
-// The choice between two vectors by flags.
+/// The choice between two vectors by flags.
 #[derive(Clone, Copy)]
-struct Choice;
+pub struct Select;
 
-impl<'a> Kernel<(&'a [bool], &'a [i64], &'a [i64])> for Choice {
+impl<'a> Kernel<(&'a [bool], &'a [i64], &'a [i64])> for Select {
     type Item = i64;
 
     ghost Takes = { λ kernel p. (length p.0.now ≡ length p.1.now) × (length p.0.now ≡ length p.2.now) };
@@ -36,7 +28,17 @@ impl<'a> Kernel<(&'a [bool], &'a [i64], &'a [i64])> for Choice {
     }
 }
 
-impl<'a> Kernel<(&'a [bool], &'a [bool], &'a [bool])> for Choice {
+impl<'a> JoinedKernel<(&'a [bool], &'a [i64], &'a [i64])> for Select {
+    fn run_each(
+        self,
+        alloc: Global,
+        parts: &[(&'a [bool], &'a [i64], &'a [i64])],
+    ) -> Result<Vec<Vec<i64>>, AllocError> {
+        run_parts(alloc, self, parts)
+    }
+}
+
+impl<'a> Kernel<(&'a [bool], &'a [bool], &'a [bool])> for Select {
     type Item = bool;
 
     ghost Takes = { λ kernel p. (length p.0.now ≡ length p.1.now) × (length p.0.now ≡ length p.2.now) };
@@ -53,40 +55,12 @@ impl<'a> Kernel<(&'a [bool], &'a [bool], &'a [bool])> for Choice {
     }
 }
 
-/// At each place the integer of the first vector where the flag is set, else that of the second, of flags and vectors that lie in
-/// parts: one run, whose result lies in parts as well.
-pub fn select_z_joined(
-    _execution: &impl Execution,
-    alloc: Global,
-    meter: &mut Meter,
-    parts: &[(&[bool], &[i64], &[i64])],
-) -> Result<Vec<Vec<i64>>, OutOfMemory>
-    requires { All (λ p. (length p.0.now ≡ length p.1.now) × (length p.0.now ≡ length p.2.now)) parts.now }
-    ensures parts { IfOk result (λ made. parts_made made.items ≡ map (λ p. selected p.0.now p.1.now p.2.now) parts.now) }
-    ensures joined { IfOk result (λ made. joined (parts_made made.items) ≡ selected (flat_map (λ p. p.0.now) parts.now) (flat_map (λ p. p.1.now) parts.now) (flat_map (λ p. p.2.now) parts.now)) }
-    ensures exact { IfOk result (λ made. All IsExact made.items) }
-    ensures counted { CountsRun result meter.old meter.new }
-{
-    let made = run_each(alloc, Choice, parts)?;
-    meter.raise();
-    Ok(made)
-}
-
-/// At each place the truth value of the first vector where the flag is set, else that of the second, of flags and vectors that lie
-/// in parts: one run, whose result lies in parts as well.
-pub fn select_b_joined(
-    _execution: &impl Execution,
-    alloc: Global,
-    meter: &mut Meter,
-    parts: &[(&[bool], &[bool], &[bool])],
-) -> Result<Vec<Vec<bool>>, OutOfMemory>
-    requires { All (λ p. (length p.0.now ≡ length p.1.now) × (length p.0.now ≡ length p.2.now)) parts.now }
-    ensures parts { IfOk result (λ made. parts_made made.items ≡ map (λ p. selected p.0.now p.1.now p.2.now) parts.now) }
-    ensures joined { IfOk result (λ made. joined (parts_made made.items) ≡ selected (flat_map (λ p. p.0.now) parts.now) (flat_map (λ p. p.1.now) parts.now) (flat_map (λ p. p.2.now) parts.now)) }
-    ensures exact { IfOk result (λ made. All IsExact made.items) }
-    ensures counted { CountsRun result meter.old meter.new }
-{
-    let made = run_each(alloc, Choice, parts)?;
-    meter.raise();
-    Ok(made)
+impl<'a> JoinedKernel<(&'a [bool], &'a [bool], &'a [bool])> for Select {
+    fn run_each(
+        self,
+        alloc: Global,
+        parts: &[(&'a [bool], &'a [bool], &'a [bool])],
+    ) -> Result<Vec<Vec<bool>>, AllocError> {
+        run_parts(alloc, self, parts)
+    }
 }

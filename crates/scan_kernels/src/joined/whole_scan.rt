@@ -1,27 +1,18 @@
 //! The exclusive scan of each part, which is one segment.
 
-ghost use Rattle.std.specs.Prelude.{◌≡◌, length, map, All, IfOk};
-ghost use Rattle.std.specs.List.{flat_map};
-ghost use Rattle.segment_desc.specs.Appended.{IsExact};
-ghost use Rattle.segment_desc.specs.Cut.{joined};
 ghost use Rattle.item_operations.specs.BooleanScans.{combine_b, unit_b};
 ghost use Rattle.item_operations.specs.IntegerScans.{combine_z, unit_z};
-ghost use Rattle.scan_kernels.specs.Metering.{CountsRun};
-ghost use Rattle.scan_kernels.specs.Parts.{parts_made};
-ghost use Rattle.scan_kernels.specs.Segmented.{scanned, segmented_scan};
+ghost use Rattle.scan_kernels.specs.Segmented.{scanned};
 
 use crate::choices::{by_name, by_scan_b, by_scan_z};
-use crate::execution::Execution;
-use crate::meter::Meter;
-use crate::parts::{Kernel, run_each};
+use crate::kernel::{JoinedKernel, Kernel, run_parts};
 use crate::whole::scan_whole;
 use item_operations::{ScanB, ScanZ};
-use segment_desc::OutOfMemory;
 use std::alloc::{AllocError, Global};
 
-// The scan of all of a part of integers.
+/// The scan of all of a part of integers.
 #[derive(Clone, Copy)]
-struct ScanInts(ScanZ);
+pub struct ScanInts(pub ScanZ);
 
 impl<'a> Kernel<&'a [i64]> for ScanInts {
     type Item = i64;
@@ -36,42 +27,16 @@ impl<'a> Kernel<&'a [i64]> for ScanInts {
     }
 }
 
-/// The exclusive scan of each part of integers, which is one segment: one run, whose result lies in parts as well.
-pub fn scan_whole_z_joined(
-    _execution: &impl Execution,
-    alloc: Global,
-    meter: &mut Meter,
-    op: ScanZ,
-    parts: &[&[i64]],
-) -> Result<Vec<Vec<i64>>, OutOfMemory>
-    ensures parts { IfOk result (λ made. parts_made made.items ≡ map (λ p. scanned (combine_z op) (unit_z op) p.now) parts.now) }
-    ensures joined { IfOk result (λ made. joined (parts_made made.items) ≡ segmented_scan (combine_z op) (unit_z op) (map (λ p. length p.now) parts.now) (flat_map (λ p. p.now) parts.now)) }
-    ensures exact { IfOk result (λ made. All IsExact made.items) }
-    ensures counted { CountsRun result meter.old meter.new }
-{
-    let made = chosen_parts_z(alloc, op, parts)?;
-    meter.raise();
-    Ok(made)
+impl<'a> JoinedKernel<&'a [i64]> for ScanInts {
+    fn run_each(self, alloc: Global, parts: &[&'a [i64]]) -> Result<Vec<Vec<i64>>, AllocError> {
+        let op = self.0;
+        by_scan_z!(op, run_parts(alloc, ScanInts(op), parts))
+    }
 }
 
-fn chosen_parts_z(alloc: Global, op: ScanZ, parts: &[&[i64]]) -> Result<Vec<Vec<i64>>, AllocError>
-    ensures parts { IfOk result (λ made. parts_made made.items ≡ map (λ p. scanned (combine_z op) (unit_z op) p.now) parts.now) }
-    ensures exact { IfOk result (λ made. All IsExact made.items) }
-{
-    by_scan_z!(op, scan_parts_z(alloc, op, parts))
-}
-
-#[inline(always)]
-fn scan_parts_z(alloc: Global, op: ScanZ, parts: &[&[i64]]) -> Result<Vec<Vec<i64>>, AllocError>
-    ensures parts { IfOk result (λ made. parts_made made.items ≡ map (λ p. scanned (combine_z op) (unit_z op) p.now) parts.now) }
-    ensures exact { IfOk result (λ made. All IsExact made.items) }
-{
-    run_each(alloc, ScanInts(op), parts)
-}
-
-// The scan of all of a part of truth values.
+/// The scan of all of a part of truth values.
 #[derive(Clone, Copy)]
-struct ScanBools(ScanB);
+pub struct ScanBools(pub ScanB);
 
 impl<'a> Kernel<&'a [bool]> for ScanBools {
     type Item = bool;
@@ -86,35 +51,9 @@ impl<'a> Kernel<&'a [bool]> for ScanBools {
     }
 }
 
-/// The exclusive scan of each part of truth values, which is one segment: one run, whose result lies in parts as well.
-pub fn scan_whole_b_joined(
-    _execution: &impl Execution,
-    alloc: Global,
-    meter: &mut Meter,
-    op: ScanB,
-    parts: &[&[bool]],
-) -> Result<Vec<Vec<bool>>, OutOfMemory>
-    ensures parts { IfOk result (λ made. parts_made made.items ≡ map (λ p. scanned (combine_b op) (unit_b op) p.now) parts.now) }
-    ensures joined { IfOk result (λ made. joined (parts_made made.items) ≡ segmented_scan (combine_b op) (unit_b op) (map (λ p. length p.now) parts.now) (flat_map (λ p. p.now) parts.now)) }
-    ensures exact { IfOk result (λ made. All IsExact made.items) }
-    ensures counted { CountsRun result meter.old meter.new }
-{
-    let made = chosen_parts_b(alloc, op, parts)?;
-    meter.raise();
-    Ok(made)
-}
-
-fn chosen_parts_b(alloc: Global, op: ScanB, parts: &[&[bool]]) -> Result<Vec<Vec<bool>>, AllocError>
-    ensures parts { IfOk result (λ made. parts_made made.items ≡ map (λ p. scanned (combine_b op) (unit_b op) p.now) parts.now) }
-    ensures exact { IfOk result (λ made. All IsExact made.items) }
-{
-    by_scan_b!(op, scan_parts_b(alloc, op, parts))
-}
-
-#[inline(always)]
-fn scan_parts_b(alloc: Global, op: ScanB, parts: &[&[bool]]) -> Result<Vec<Vec<bool>>, AllocError>
-    ensures parts { IfOk result (λ made. parts_made made.items ≡ map (λ p. scanned (combine_b op) (unit_b op) p.now) parts.now) }
-    ensures exact { IfOk result (λ made. All IsExact made.items) }
-{
-    run_each(alloc, ScanBools(op), parts)
+impl<'a> JoinedKernel<&'a [bool]> for ScanBools {
+    fn run_each(self, alloc: Global, parts: &[&'a [bool]]) -> Result<Vec<Vec<bool>>, AllocError> {
+        let op = self.0;
+        by_scan_b!(op, run_parts(alloc, ScanBools(op), parts))
+    }
 }

@@ -2,6 +2,7 @@ use Rattle.std.proofs.Common.{◌≡◌, ◌<◌, ◌≤ℤ◌, length, get_or, 
 use Rattle.std.proofs.lemmas.Int.{ints}
 use Rattle.permute_kernels.proofs.Counting.{each_inside}
 use Rattle.permute_kernels.proofs.Placing.{place_below, placed_more, placed_all}
+use Rattle.permute_kernels.proofs.Sending.{permuted_is}
 use Rattle.permute_kernels.proofs.permute.scatter.Goals as goal
 
 pub place_of-requires : goal.place_of-requires
@@ -36,4 +37,8 @@ loop-i-preserved g c =
     placed_more index c.args.items.now c.loop-i.made i c.place_of.result c.index-items-i.result c.requires.each_once c.requires.same_length (omega arith) (omega arith) (sym item ∙ sym c.place_of.ensures) c.index-items-i.is c.loop-i.invariant
 
 pub returns : goal.returns
-returns g c = placed_all c.args.index.now c.args.items.now c.loop-i.made c.loop-i.i (omega arith) (omega arith) c.loop-i.invariant
+returns g c =
+    let index = c.args.index.now in
+    let items = c.args.items.now in
+    let moved = placed_all index items c.loop-i.made c.loop-i.i (omega arith) (omega arith) c.loop-i.invariant in
+    record { permute = permuted_is index items c.loop-i.made c.requires.each_once c.requires.same_length moved; places = moved }

@@ -18,8 +18,8 @@ loop-length-preserved g c =
     let total = sum-take_more ls i c.loop-length-test.true in
     record {
       place = omega arith;
-      long = length_written ls i c.loop-length.at c.args.index.now c.args.items.now c.loop-length.made c.scatter.new.made c.loop-length-test.true c.loop-length.invariant.place c.requires.total c.requires.same_length c.loop-length.invariant.long c.scatter.ensures;
-      done = permuted_more ls i c.loop-length.at c.args.index.now c.args.items.now c.loop-length.made c.scatter.new.made c.loop-length-test.true c.loop-length.invariant.place c.requires.total c.requires.same_length c.loop-length.invariant.long c.loop-length.invariant.done c.scatter.ensures;
+      long = length_written ls i c.loop-length.at c.args.index.now c.args.items.now c.loop-length.made c.scatter.new.made c.loop-length-test.true c.loop-length.invariant.place c.requires.total c.requires.same_length c.loop-length.invariant.long c.scatter.ensures.places;
+      done = permuted_more ls i c.loop-length.at c.args.index.now c.args.items.now c.loop-length.made c.scatter.new.made c.loop-length-test.true c.loop-length.invariant.place c.requires.total c.requires.same_length c.loop-length.invariant.long c.loop-length.invariant.done c.scatter.ensures.places;
     }
 
 pub returns : goal.returns

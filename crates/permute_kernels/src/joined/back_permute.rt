@@ -1,0 +1,68 @@
+//! Items read from the places that an index holds, segment by segment, on operands that lie in parts.
+
+ghost use Rattle.std.specs.Prelude.{◌≡◌, length, sum};
+ghost use Rattle.permute_kernels.specs.Indices.{LieWithin};
+ghost use Rattle.permute_kernels.specs.Gathered.{segmented_gather};
+
+use crate::back_permute::gather_each;
+use scan_kernels::{JoinedKernel, Kernel, run_parts};
+use segment_desc::Segd;
+use std::alloc::{AllocError, Global};
+
+/// Items read by an index, segment by segment.
+#[derive(Clone, Copy)]
+pub struct BackPermute;
+
+impl<'a> Kernel<(&'a [i64], &'a Segd, &'a [i64], &'a Segd)> for BackPermute {
+    type Item = i64;
+
+    ghost Takes = { λ kernel p. (sum p.1.now ≡ length p.0.now) × (sum p.3.now ≡ length p.2.now) × (length p.1.now ≡ length p.3.now) × LieWithin p.1.now p.3.now p.2.now };
+
+    ghost makes = { λ kernel p. segmented_gather p.1.now p.0.now p.3.now p.2.now };
+
+    #[inline(always)]
+    fn run(
+        self,
+        alloc: Global,
+        part: &(&'a [i64], &'a Segd, &'a [i64], &'a Segd),
+    ) -> Result<Vec<i64>, AllocError> {
+        gather_each(alloc, part.0, part.1.lengths(), part.2, part.3.lengths())
+    }
+}
+
+impl<'a> JoinedKernel<(&'a [i64], &'a Segd, &'a [i64], &'a Segd)> for BackPermute {
+    fn run_each(
+        self,
+        alloc: Global,
+        parts: &[(&'a [i64], &'a Segd, &'a [i64], &'a Segd)],
+    ) -> Result<Vec<Vec<i64>>, AllocError> {
+        run_parts(alloc, self, parts)
+    }
+}
+
+impl<'a> Kernel<(&'a [bool], &'a Segd, &'a [i64], &'a Segd)> for BackPermute {
+    type Item = bool;
+
+    ghost Takes = { λ kernel p. (sum p.1.now ≡ length p.0.now) × (sum p.3.now ≡ length p.2.now) × (length p.1.now ≡ length p.3.now) × LieWithin p.1.now p.3.now p.2.now };
+
+    ghost makes = { λ kernel p. segmented_gather p.1.now p.0.now p.3.now p.2.now };
+
+    #[inline(always)]
+    fn run(
+        self,
+        alloc: Global,
+        part: &(&'a [bool], &'a Segd, &'a [i64], &'a Segd),
+    ) -> Result<Vec<bool>, AllocError> {
+        gather_each(alloc, part.0, part.1.lengths(), part.2, part.3.lengths())
+    }
+}
+
+impl<'a> JoinedKernel<(&'a [bool], &'a Segd, &'a [i64], &'a Segd)> for BackPermute {
+    fn run_each(
+        self,
+        alloc: Global,
+        parts: &[(&'a [bool], &'a Segd, &'a [i64], &'a Segd)],
+    ) -> Result<Vec<Vec<bool>>, AllocError> {
+        run_parts(alloc, self, parts)
+    }
+}

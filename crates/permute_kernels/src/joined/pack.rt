@@ -1,0 +1,118 @@
+//! Items kept by a flag, on operands that lie in parts.
+
+ghost use Rattle.std.specs.Prelude.{◌≡◌, length};
+ghost use Rattle.segment_desc.specs.Cut.{joined};
+ghost use Rattle.permute_kernels.specs.Packed.{packed};
+
+use crate::pack::{BLOCK, kept};
+use scan_kernels::{JoinedKernel, Kernel, run_parts};
+use segment_desc::Segd;
+use std::alloc::{AllocError, Global};
+
+/// Items kept by a flag.
+#[derive(Clone, Copy)]
+pub struct Pack;
+
+impl<'a> Kernel<(&'a [i64], &'a [bool])> for Pack {
+    type Item = i64;
+
+    ghost Takes = { λ kernel p. length p.1.now ≡ length p.0.now };
+
+    ghost makes = { λ kernel p. packed p.1.now p.0.now };
+
+    #[inline(always)]
+    fn run(self, alloc: Global, part: &(&'a [i64], &'a [bool])) -> Result<Vec<i64>, AllocError> {
+        kept(alloc, part.0, part.1, &mut [0; BLOCK])
+    }
+}
+
+impl<'a> JoinedKernel<(&'a [i64], &'a [bool])> for Pack {
+    fn run_each(
+        self,
+        alloc: Global,
+        parts: &[(&'a [i64], &'a [bool])],
+    ) -> Result<Vec<Vec<i64>>, AllocError> {
+        run_parts(alloc, self, parts)
+    }
+}
+
+impl<'a> Kernel<(&'a [bool], &'a [bool])> for Pack {
+    type Item = bool;
+
+    ghost Takes = { λ kernel p. length p.1.now ≡ length p.0.now };
+
+    ghost makes = { λ kernel p. packed p.1.now p.0.now };
+
+    #[inline(always)]
+    fn run(self, alloc: Global, part: &(&'a [bool], &'a [bool])) -> Result<Vec<bool>, AllocError> {
+        kept(alloc, part.0, part.1, &mut [false; BLOCK])
+    }
+}
+
+impl<'a> JoinedKernel<(&'a [bool], &'a [bool])> for Pack {
+    fn run_each(
+        self,
+        alloc: Global,
+        parts: &[(&'a [bool], &'a [bool])],
+    ) -> Result<Vec<Vec<bool>>, AllocError> {
+        run_parts(alloc, self, parts)
+    }
+}
+
+/// Items kept by a flag, of segments: the packed segments, joined, are the pack of all items.
+#[derive(Clone, Copy)]
+pub struct PackSegments;
+
+impl<'a> Kernel<(&'a [i64], &'a [bool], &'a Segd)> for PackSegments {
+    type Item = i64;
+
+    ghost Takes = { λ kernel p. length p.1.now ≡ length p.0.now };
+
+    ghost makes = { λ kernel p. packed p.1.now p.0.now };
+
+    #[inline(always)]
+    fn run(
+        self,
+        alloc: Global,
+        part: &(&'a [i64], &'a [bool], &'a Segd),
+    ) -> Result<Vec<i64>, AllocError> {
+        kept(alloc, part.0, part.1, &mut [0; BLOCK])
+    }
+}
+
+impl<'a> JoinedKernel<(&'a [i64], &'a [bool], &'a Segd)> for PackSegments {
+    fn run_each(
+        self,
+        alloc: Global,
+        parts: &[(&'a [i64], &'a [bool], &'a Segd)],
+    ) -> Result<Vec<Vec<i64>>, AllocError> {
+        run_parts(alloc, self, parts)
+    }
+}
+
+impl<'a> Kernel<(&'a [bool], &'a [bool], &'a Segd)> for PackSegments {
+    type Item = bool;
+
+    ghost Takes = { λ kernel p. length p.1.now ≡ length p.0.now };
+
+    ghost makes = { λ kernel p. packed p.1.now p.0.now };
+
+    #[inline(always)]
+    fn run(
+        self,
+        alloc: Global,
+        part: &(&'a [bool], &'a [bool], &'a Segd),
+    ) -> Result<Vec<bool>, AllocError> {
+        kept(alloc, part.0, part.1, &mut [false; BLOCK])
+    }
+}
+
+impl<'a> JoinedKernel<(&'a [bool], &'a [bool], &'a Segd)> for PackSegments {
+    fn run_each(
+        self,
+        alloc: Global,
+        parts: &[(&'a [bool], &'a [bool], &'a Segd)],
+    ) -> Result<Vec<Vec<bool>>, AllocError> {
+        run_parts(alloc, self, parts)
+    }
+}

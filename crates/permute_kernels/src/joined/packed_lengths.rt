@@ -1,0 +1,36 @@
+//! How many flags each segment has set, on operands that lie in parts.
+
+ghost use Rattle.std.specs.Prelude.{◌≡◌, length, sum};
+ghost use Rattle.permute_kernels.specs.Packed.{numbers_set};
+
+use crate::pack::count_each;
+use scan_kernels::{JoinedKernel, Kernel, run_parts};
+use segment_desc::Segd;
+use std::alloc::{AllocError, Global};
+
+/// How many flags each segment has set.
+#[derive(Clone, Copy)]
+pub struct PackLengths;
+
+impl<'a> Kernel<(&'a [bool], &'a Segd)> for PackLengths {
+    type Item = i64;
+
+    ghost Takes = { λ kernel p. sum p.1.now ≡ length p.0.now };
+
+    ghost makes = { λ kernel p. numbers_set p.1.now p.0.now };
+
+    #[inline(always)]
+    fn run(self, alloc: Global, part: &(&'a [bool], &'a Segd)) -> Result<Vec<i64>, AllocError> {
+        count_each(alloc, part.0, part.1.lengths())
+    }
+}
+
+impl<'a> JoinedKernel<(&'a [bool], &'a Segd)> for PackLengths {
+    fn run_each(
+        self,
+        alloc: Global,
+        parts: &[(&'a [bool], &'a Segd)],
+    ) -> Result<Vec<Vec<i64>>, AllocError> {
+        run_parts(alloc, self, parts)
+    }
+}

@@ -1,0 +1,59 @@
+//! Items moved to the places that an index holds, on operands that lie in parts, of which each is one segment.
+
+ghost use Rattle.std.specs.Prelude.{◌≡◌, length};
+ghost use Rattle.permute_kernels.specs.Indices.{HoldsEachPlaceOnce};
+ghost use Rattle.permute_kernels.specs.Permuted.{permuted};
+
+use crate::permute_whole::permuted_whole;
+use scan_kernels::{JoinedKernel, Kernel, run_parts};
+use std::alloc::{AllocError, Global};
+
+/// Items moved by an index.
+#[derive(Clone, Copy)]
+pub struct PermuteWhole;
+
+impl<'a> Kernel<(&'a [i64], &'a [i64])> for PermuteWhole {
+    type Item = i64;
+
+    ghost Takes = { λ kernel p. (length p.1.now ≡ length p.0.now) × HoldsEachPlaceOnce p.1.now };
+
+    ghost makes = { λ kernel p. permuted p.1.now p.0.now };
+
+    #[inline(always)]
+    fn run(self, alloc: Global, part: &(&'a [i64], &'a [i64])) -> Result<Vec<i64>, AllocError> {
+        permuted_whole(alloc, part.0, part.1)
+    }
+}
+
+impl<'a> JoinedKernel<(&'a [i64], &'a [i64])> for PermuteWhole {
+    fn run_each(
+        self,
+        alloc: Global,
+        parts: &[(&'a [i64], &'a [i64])],
+    ) -> Result<Vec<Vec<i64>>, AllocError> {
+        run_parts(alloc, self, parts)
+    }
+}
+
+impl<'a> Kernel<(&'a [bool], &'a [i64])> for PermuteWhole {
+    type Item = bool;
+
+    ghost Takes = { λ kernel p. (length p.1.now ≡ length p.0.now) × HoldsEachPlaceOnce p.1.now };
+
+    ghost makes = { λ kernel p. permuted p.1.now p.0.now };
+
+    #[inline(always)]
+    fn run(self, alloc: Global, part: &(&'a [bool], &'a [i64])) -> Result<Vec<bool>, AllocError> {
+        permuted_whole(alloc, part.0, part.1)
+    }
+}
+
+impl<'a> JoinedKernel<(&'a [bool], &'a [i64])> for PermuteWhole {
+    fn run_each(
+        self,
+        alloc: Global,
+        parts: &[(&'a [bool], &'a [i64])],
+    ) -> Result<Vec<Vec<bool>>, AllocError> {
+        run_parts(alloc, self, parts)
+    }
+}

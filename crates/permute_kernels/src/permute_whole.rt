@@ -1,0 +1,71 @@
+//! Items moved to the places that an index holds, all of one segment, without a list of it. Want of memory leaves the meter as
+//! it was.
+
+ghost use Rattle.std.specs.Prelude.{◌≡◌, length, IfOk};
+ghost use Rattle.segment_desc.specs.Appended.{IsExact};
+ghost use Rattle.scan_kernels.specs.Metering.{CountsRun};
+ghost use Rattle.permute_kernels.specs.Indices.{HoldsEachPlaceOnce};
+ghost use Rattle.permute_kernels.specs.Permuted.{IsPermuted, permuted};
+
+use crate::permute::scatter;
+use scan_kernels::{Execution, Meter};
+use segment_desc::{OutOfMemory, append_reserved};
+use std::alloc::{AllocError, Global};
+
+/// The integer at place i goes to the place that the index holds at i. There are as many indices as integers, and the index
+/// holds each of its places once, as `is_whole_permutation` tells. A copy, and one pass that writes over it.
+pub fn permute_whole_z(
+    _execution: &impl Execution,
+    alloc: Global,
+    meter: &mut Meter,
+    items: &[i64],
+    index: &[i64],
+) -> Result<Vec<i64>, OutOfMemory>
+    requires same_length { length index.now ≡ length items.now }
+    requires each_once { HoldsEachPlaceOnce index.now }
+    ensures permute { IfOk result (λ v. v.items ≡ permuted index.now items.now) }
+    ensures places { IfOk result (λ v. IsPermuted index.now items.now v.items) }
+    ensures exact { IfOk result (λ v. IsExact v) }
+    ensures counted { CountsRun result meter.old meter.new }
+{
+    let made = permuted_whole(alloc, items, index)?;
+    meter.raise();
+    Ok(made)
+}
+
+/// The same for truth values.
+pub fn permute_whole_b(
+    _execution: &impl Execution,
+    alloc: Global,
+    meter: &mut Meter,
+    flags: &[bool],
+    index: &[i64],
+) -> Result<Vec<bool>, OutOfMemory>
+    requires same_length { length index.now ≡ length flags.now }
+    requires each_once { HoldsEachPlaceOnce index.now }
+    ensures permute { IfOk result (λ v. v.items ≡ permuted index.now flags.now) }
+    ensures places { IfOk result (λ v. IsPermuted index.now flags.now v.items) }
+    ensures exact { IfOk result (λ v. IsExact v) }
+    ensures counted { CountsRun result meter.old meter.new }
+{
+    let made = permuted_whole(alloc, flags, index)?;
+    meter.raise();
+    Ok(made)
+}
+
+pub(crate) fn permuted_whole<T: Copy + Send + Sync>(
+    alloc: Global,
+    items: &[T],
+    index: &[i64],
+) -> Result<Vec<T>, AllocError>
+    requires same_length { length index.now ≡ length items.now }
+    requires each_once { HoldsEachPlaceOnce index.now }
+    ensures permute { IfOk result (λ v. v.items ≡ permuted index.now items.now) }
+    ensures places { IfOk result (λ v. IsPermuted index.now items.now v.items) }
+    ensures exact { IfOk result (λ v. IsExact v) }
+{
+    let mut made = Vec::with_capacity(alloc, items.len())?;
+    append_reserved(items, &mut made);
+    scatter(items, index, made.as_mut_slice());
+    Ok(made)
+}

@@ -1,9 +1,0 @@
-use Rattle.std.proofs.Common.{◌∙◌, ap}
-use Rattle.segment_desc.specs.Cut.{joined}
-use Rattle.scan_kernels.specs.Elementwise.{is_true}
-use Rattle.scan_kernels.proofs.Joining.{map-joined}
-use Rattle.scan_kernels.proofs.joined.convert.truth_joined.Goals as goal
-
-pub returns-clause-joined : goal.returns-clause-joined
-returns-clause-joined g c =
-    ap joined c.in_ok-made.ensures.parts ∙ map-joined is_true (λ p. p.now) c.args.parts.now

@@ -1,8 +1,0 @@
-use Rattle.std.proofs.Common.{◌∙◌, ap}
-use Rattle.segment_desc.specs.Cut.{joined}
-use Rattle.scan_kernels.proofs.Joining.{segmented_index-joined}
-use Rattle.scan_kernels.proofs.joined.indices.index_joined.Goals as goal
-
-pub returns-clause-joined : goal.returns-clause-joined
-returns-clause-joined g c =
-    ap joined c.in_ok-made.ensures.parts ∙ segmented_index-joined (λ p. p.2.now) (λ p. p.0.now) (λ p. p.1.now) c.args.parts.now c.requires

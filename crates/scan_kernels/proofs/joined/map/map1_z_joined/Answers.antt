@@ -1,8 +1,0 @@
-use Rattle.std.proofs.Common.{◌∙◌, ap}
-use Rattle.segment_desc.specs.Cut.{joined}
-use Rattle.item_operations.specs.IntegerOps.{alter_z}
-use Rattle.scan_kernels.proofs.Joining.{map-joined}
-use Rattle.scan_kernels.proofs.joined.map.map1_z_joined.Goals as goal
-
-pub returns-clause-joined : goal.returns-clause-joined
-returns-clause-joined g c = ap joined c.in_ok-made.ensures.parts ∙ map-joined (alter_z c.args.op) (λ p. p.now) c.args.parts.now
