@@ -1,26 +1,13 @@
--- An index that holds each place once permutes the one segment that has all items, `once-permutes`, and a pack needs no segments,
--- `over_items-packed`.
+-- A pack needs no segments, `over_items-packed`.
 use Rattle.std.proofs.Common.{◌≡◌, ℕ, List, [], ◌∷◌, ◌++◌, length, take, drop, refl, sym, ap, ◌∙◌, subst, All, sum, ℤ, Bool, arith}
-use Rattle.std.proofs.lemmas.List.{length-drop, length-take, take-append-drop, take_all}
-use Rattle.std.proofs.lemmas.List.Elements.{All-from_recursion}
+use Rattle.std.proofs.lemmas.List.{length-drop, length-take, take-append-drop}
 use Rattle.std.proofs.lemmas.List.Sums.{sum_by-cons}
 use Rattle.segment_desc.specs.Cut.{cut}
-use Rattle.permute_kernels.specs.Indices.{HoldsEachPlaceOnce, PermuteSegments}
 use Rattle.permute_kernels.specs.Packed.{packed}
 use Rattle.permute_kernels.proofs.Joining.{packed-append}
 use Rattle.vector_memory.specs.Contents.{Content, Ints, Bools, Segs, size_of}
 use Rattle.cvl_calls.specs.Operands.{over_items}
 use Rattle.cvl_calls.specs.SegmentedPack.{segmented_pack}
-
-module _ {X : Type 0} (xs : List X) where
-  pub cut-whole : cut (length xs ∷ []) xs ≡ xs ∷ []
-  cut-whole = ap (λ l. l ∷ []) (take_all (length xs) xs (omega arith))
-
-pub once-permutes : (ls : List ℕ) (index : List ℤ) → ls ≡ length index ∷ [] → HoldsEachPlaceOnce index → PermuteSegments ls index
-unfolding PermuteSegments
-once-permutes ls index whole once =
-    let one : All HoldsEachPlaceOnce (index ∷ []) = All-from_recursion HoldsEachPlaceOnce (index ∷ []) (once, tt) in
-    rw whole (subst (All HoldsEachPlaceOnce) (sym (cut-whole index)) one)
 
 -- the packed segments joined are the pack of all items
 module _ {X : Type 0} where

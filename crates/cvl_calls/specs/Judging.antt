@@ -1,6 +1,6 @@
 -- A call in which no fault was found: its word, what the run of it makes, and what its operands keep.
-use Rattle.std.specs.Prelude.{◌≡◌, ◌<◌, pos, Bool, map, length, sum, replicate, slice_set, All, Some, None, Result, Ok, Err}
-use Rattle.segment_desc.specs.Lengths.{IsWithinLimits, sizes}
+use Rattle.std.specs.Prelude.{◌≡◌, ◌<◌, ◌≤◌, pos, Bool, map, length, sum, replicate, slice_set, All, Result, Ok, Err}
+use Rattle.segment_desc.specs.Lengths.{IsWithinLimits, most, sizes}
 use Rattle.item_operations.specs.IntegerOps.{IsAllowed, apply_z, alter_z, compares}
 use Rattle.item_operations.specs.BooleanOps.{apply_b, alter_b}
 use Rattle.item_operations.specs.IntegerScans.{combine_z, unit_z}
@@ -51,10 +51,10 @@ word_of (judged.TruthsOf a) = words.One ones.Boo
 word_of (judged.NumbersOf a) = words.One ones.IntOf
 word_of (judged.SelectInts f a b) = words.Three (threes.Sel kinds.Z)
 word_of (judged.SelectBools f a b) = words.Three (threes.Sel kinds.B)
-word_of (judged.ScanInts op a None) = words.One (ones.ScanZ op)
-word_of (judged.ScanInts op a (Some s)) = words.Two (twos.ScanSegZ op)
-word_of (judged.ScanBools op a None) = words.One (ones.ScanB op)
-word_of (judged.ScanBools op a (Some s)) = words.Two (twos.ScanSegB op)
+word_of (judged.ScanInts op a) = words.One (ones.ScanZ op)
+word_of (judged.ScanIntSegments op a s) = words.Two (twos.ScanSegZ op)
+word_of (judged.ScanBools op a) = words.One (ones.ScanB op)
+word_of (judged.ScanBoolSegments op a s) = words.Two (twos.ScanSegB op)
 word_of (judged.ReduceInts op a) = words.Ask (asks.RedZ op)
 word_of (judged.ReduceBools op a) = words.Ask (asks.RedB op)
 word_of (judged.ReduceIntSegments op a s) = words.Two (twos.RedSegZ op)
@@ -64,8 +64,8 @@ word_of (judged.RepeatBool x n) = words.DisB
 word_of (judged.Distribute v s) = words.Two (twos.DisSeg (kind_of v))
 word_of (judged.Index u v n) = words.Ind
 word_of (judged.IndexSegments a b s) = words.Three threes.IndSeg
-word_of (judged.Permute v i None) = words.Two (twos.Smp (kind_of v))
-word_of (judged.Permute v i (Some s)) = words.Three (threes.SmpSeg (kind_of v))
+word_of (judged.Permute v i) = words.Two (twos.Smp (kind_of v))
+word_of (judged.PermuteSegments v i s) = words.Three (threes.SmpSeg (kind_of v))
 word_of (judged.Gather v i) = words.Two (twos.Bck (kind_of v))
 word_of (judged.GatherSegments v s i t) = words.BckSeg (kind_of v)
 word_of (judged.Pack v f) = words.Two (twos.Pck (kind_of v))
@@ -94,10 +94,10 @@ made (judged.TruthsOf a) = Stores (Bools (map is_true a.now))
 made (judged.NumbersOf a) = Stores (Ints (map as_number a.now))
 made (judged.SelectInts f a b) = Stores (Ints (selected f.now a.now b.now))
 made (judged.SelectBools f a b) = Stores (Bools (selected f.now a.now b.now))
-made (judged.ScanInts op a None) = Stores (Ints (scanned (combine_z op) (unit_z op) a.now))
-made (judged.ScanInts op a (Some s)) = Stores (Ints (segmented_scan (combine_z op) (unit_z op) s.now a.now))
-made (judged.ScanBools op a None) = Stores (Bools (scanned (combine_b op) (unit_b op) a.now))
-made (judged.ScanBools op a (Some s)) = Stores (Bools (segmented_scan (combine_b op) (unit_b op) s.now a.now))
+made (judged.ScanInts op a) = Stores (Ints (scanned (combine_z op) (unit_z op) a.now))
+made (judged.ScanIntSegments op a s) = Stores (Ints (segmented_scan (combine_z op) (unit_z op) s.now a.now))
+made (judged.ScanBools op a) = Stores (Bools (scanned (combine_b op) (unit_b op) a.now))
+made (judged.ScanBoolSegments op a s) = Stores (Bools (segmented_scan (combine_b op) (unit_b op) s.now a.now))
 made (judged.ReduceInts op a) = Answers (IntOf (reduced (combine_z op) (unit_z op) a.now))
 made (judged.ReduceBools op a) = Answers (BoolOf (reduced (combine_b op) (unit_b op) a.now))
 made (judged.ReduceIntSegments op a s) = Stores (Ints (segmented_reduce (combine_z op) (unit_z op) s.now a.now))
@@ -107,8 +107,8 @@ made (judged.RepeatBool x n) = Stores (Bools (replicate n x))
 made (judged.Distribute v s) = Stores (over_items (λ X xs. distributed s.now xs) (vector_of v))
 made (judged.Index u v n) = Stores (Ints (indexed u v n))
 made (judged.IndexSegments a b s) = Stores (Ints (segmented_index s.now a.now b.now))
-made (judged.Permute v i None) = Stores (over_items (λ X xs. permuted i.now xs) (vector_of v))
-made (judged.Permute v i (Some s)) = Stores (over_items (λ X xs. segmented_permute s.now i.now xs) (vector_of v))
+made (judged.Permute v i) = Stores (over_items (λ X xs. permuted i.now xs) (vector_of v))
+made (judged.PermuteSegments v i s) = Stores (over_items (λ X xs. segmented_permute s.now i.now xs) (vector_of v))
 made (judged.Gather v i) = Stores (over_items (λ X xs. gathered i.now xs) (vector_of v))
 made (judged.GatherSegments v s i t) = Stores (over_items (λ X xs. segmented_gather s.now xs t.now i.now) (vector_of v))
 made (judged.Pack v f) = Stores (over_items (λ X xs. packed f.now xs) (vector_of v))
@@ -125,14 +125,15 @@ IsReady (judged.Compare op a b) = length a.now ≡ length b.now
 IsReady (judged.MapBools op a b) = length a.now ≡ length b.now
 IsReady (judged.SelectInts f a b) = (length f.now ≡ length a.now) × (length f.now ≡ length b.now)
 IsReady (judged.SelectBools f a b) = (length f.now ≡ length a.now) × (length f.now ≡ length b.now)
-IsReady (judged.ScanInts op a (Some s)) = sum s.now ≡ length a.now
-IsReady (judged.ScanBools op a (Some s)) = sum s.now ≡ length a.now
+IsReady (judged.ScanIntSegments op a s) = sum s.now ≡ length a.now
+IsReady (judged.ScanBoolSegments op a s) = sum s.now ≡ length a.now
 IsReady (judged.ReduceIntSegments op a s) = sum s.now ≡ length a.now
 IsReady (judged.ReduceBoolSegments op a s) = sum s.now ≡ length a.now
 IsReady (judged.Distribute v s) = length s.now ≡ size_of (vector_of v)
+IsReady (judged.Index u v n) = n ≤ most
 IsReady (judged.IndexSegments a b s) = (length a.now ≡ length b.now) × (length s.now ≡ length a.now)
-IsReady (judged.Permute v i None) = (size_of (vector_of v) ≡ length i.now) × HoldsEachPlaceOnce i.now
-IsReady (judged.Permute v i (Some s)) = (size_of (vector_of v) ≡ length i.now) × (sum s.now ≡ size_of (vector_of v)) × PermuteSegments s.now i.now
+IsReady (judged.Permute v i) = (size_of (vector_of v) ≡ length i.now) × HoldsEachPlaceOnce i.now
+IsReady (judged.PermuteSegments v i s) = (size_of (vector_of v) ≡ length i.now) × (sum s.now ≡ size_of (vector_of v)) × PermuteSegments s.now i.now
 IsReady (judged.Gather v i) = All (IsPlaceOf (size_of (vector_of v))) i.now
 IsReady (judged.GatherSegments v s i t) = (sum s.now ≡ size_of (vector_of v)) × (sum t.now ≡ length i.now) × (length s.now ≡ length t.now) × LieWithin s.now t.now i.now
 IsReady (judged.Pack v f) = size_of (vector_of v) ≡ length f.now

@@ -4,7 +4,7 @@ use segment_desc::Segd;
 use vector_memory::Value;
 
 /// A call in which no fault was found: what is left to be done, with its operation and its operands, lent from the call and
-/// from the memory. Where a segment list may stand, none stands for one segment. A variant has the name of what `run` makes.
+/// from the memory. A variant has the name of what `run` makes.
 #[derive(Clone, Copy)]
 pub enum Judged<'a> {
     /// The integers of a line.
@@ -35,8 +35,10 @@ pub enum Judged<'a> {
     /// The flags, and the items where they are set and where they are not.
     SelectInts(&'a [bool], &'a [i64], &'a [i64]),
     SelectBools(&'a [bool], &'a [bool], &'a [bool]),
-    ScanInts(ScanZ, &'a [i64], Option<&'a Segd>),
-    ScanBools(ScanB, &'a [bool], Option<&'a Segd>),
+    ScanInts(ScanZ, &'a [i64]),
+    ScanBools(ScanB, &'a [bool]),
+    ScanIntSegments(ScanZ, &'a [i64], &'a Segd),
+    ScanBoolSegments(ScanB, &'a [bool], &'a Segd),
     /// All items, to be replied as one.
     ReduceInts(ScanZ, &'a [i64]),
     ReduceBools(ScanB, &'a [bool]),
@@ -51,7 +53,8 @@ pub enum Judged<'a> {
     /// The first number and the step of each segment.
     IndexSegments(&'a [i64], &'a [i64], &'a Segd),
     /// The items, and the place that each goes to.
-    Permute(Vector<'a>, &'a [i64], Option<&'a Segd>),
+    Permute(Vector<'a>, &'a [i64]),
+    PermuteSegments(Vector<'a>, &'a [i64], &'a Segd),
     /// The items, and the places that are read.
     Gather(Vector<'a>, &'a [i64]),
     /// The items, their segments, the places that are read, and the segments of these.

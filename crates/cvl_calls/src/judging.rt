@@ -83,6 +83,7 @@ fn judge_at_once<'a>(memory: &'a Memory, call: &'a Call) -> Result<Judged<'a>, F
     ensures { let task = task_of call.now in
         Judges task.word (work memory.now.limit task.word (operands_of memory.now task.arguments)) result }
 {
+    memories_are_lawful(memory);
     match call {
         Call::SetInts { items, .. } => set_ints(memory.limit(), items),
         Call::SetBools { items, .. } => set_bools(memory.limit(), items),

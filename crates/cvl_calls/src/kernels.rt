@@ -2,8 +2,6 @@
 //! Most are inlined: out of line each has a place for its answer in the frame of `run`, which is cleared at each call.
 
 ghost use Rattle.std.specs.Prelude.{[], ◌≡◌, ◌∷◌, IfOk};
-ghost use Rattle.item_operations.specs.BooleanScans.{combine_b, unit_b};
-ghost use Rattle.item_operations.specs.IntegerScans.{combine_z, unit_z};
 ghost use Rattle.scan_kernels.specs.Metering.{CountsRun};
 ghost use Rattle.cvl_calls.specs.Judging.{IsReady, made};
 ghost use Rattle.cvl_calls.specs.Outcomes.{effect_of};
@@ -12,135 +10,13 @@ use crate::judged::Judged;
 use crate::operands::Vector;
 use crate::product::Product;
 use crate::stored::{stored_bools, stored_ints};
-use cvl_text::{Reply, ScanB, ScanZ};
 use permute_kernels::{
-    back_permute_b, back_permute_z, gather_b, gather_z, pack_b, pack_z, permute_b, permute_z,
+    back_permute_b, back_permute_z, gather_b, gather_z, pack_b, pack_z, permute_b, permute_whole_b,
+    permute_whole_z, permute_z,
 };
-use scan_kernels::{
-    Execution, Meter, distribute_b, distribute_z, index, reduce_b, reduce_z, scan_b, scan_z,
-};
+use scan_kernels::{Execution, Meter, distribute_b, distribute_z};
 use segment_desc::{OutOfMemory, Segd};
 use std::alloc::Global;
-
-/// The segment list of one segment, which has all items.
-#[inline(always)]
-fn one_segment(alloc: Global, items: usize) -> Result<Segd, OutOfMemory>
-    ensures { IfOk result (λ segments. segments ≡ items ∷ []) }
-{
-    Segd::one(alloc, items as u64).map_err(|_| OutOfMemory)
-}
-
-/// A scan of all items.
-#[inline(always)]
-pub(crate) fn scanned_z(
-    execution: &impl Execution,
-    alloc: Global,
-    meter: &mut Meter,
-    op: ScanZ,
-    items: &[i64],
-) -> Result<Product, OutOfMemory>
-    ensures makes { IfOk result (λ product. effect_of product ≡ made (Judged.ScanInts op items.entry None)) }
-    ensures counted { CountsRun result meter.old meter.new }
-{
-    let whole = one_segment(alloc, items.len())?;
-    stored_ints(scan_z(execution, alloc, meter, op, items, &whole))
-}
-
-/// A scan of all items.
-#[inline(always)]
-pub(crate) fn scanned_b(
-    execution: &impl Execution,
-    alloc: Global,
-    meter: &mut Meter,
-    op: ScanB,
-    items: &[bool],
-) -> Result<Product, OutOfMemory>
-    ensures makes { IfOk result (λ product. effect_of product ≡ made (Judged.ScanBools op items.entry None)) }
-    ensures counted { CountsRun result meter.old meter.new }
-{
-    let whole = one_segment(alloc, items.len())?;
-    stored_bools(scan_b(execution, alloc, meter, op, items, &whole))
-}
-
-/// All items as one.
-#[inline(always)]
-pub(crate) fn reduced_z(
-    execution: &impl Execution,
-    alloc: Global,
-    meter: &mut Meter,
-    op: ScanZ,
-    items: &[i64],
-) -> Result<Product, OutOfMemory>
-    ensures makes { IfOk result (λ product. effect_of product ≡ made (Judged.ReduceInts op items.entry)) }
-    ensures counted { CountsRun result meter.old meter.new }
-{
-    let whole = one_segment(alloc, items.len())?;
-    let reduced = reduce_z(execution, alloc, meter, op, items, &whole)?;
-    Ok(Product::Reply(Reply::Int(reduced[0])))
-}
-
-/// All items as one.
-#[inline(always)]
-pub(crate) fn reduced_b(
-    execution: &impl Execution,
-    alloc: Global,
-    meter: &mut Meter,
-    op: ScanB,
-    items: &[bool],
-) -> Result<Product, OutOfMemory>
-    ensures makes { IfOk result (λ product. effect_of product ≡ made (Judged.ReduceBools op items.entry)) }
-    ensures counted { CountsRun result meter.old meter.new }
-{
-    let whole = one_segment(alloc, items.len())?;
-    let reduced = reduce_b(execution, alloc, meter, op, items, &whole)?;
-    Ok(Product::Reply(Reply::Bool(reduced[0])))
-}
-
-/// The item so often.
-pub(crate) fn repeated_z(
-    execution: &impl Execution,
-    alloc: Global,
-    meter: &mut Meter,
-    item: i64,
-    count: usize,
-) -> Result<Product, OutOfMemory>
-    ensures makes { IfOk result (λ product. effect_of product ≡ made (Judged.RepeatInt item count)) }
-    ensures counted { CountsRun result meter.old meter.new }
-{
-    let whole = one_segment(alloc, count)?;
-    stored_ints(distribute_z(execution, alloc, meter, &[item], &whole))
-}
-
-/// The item so often.
-pub(crate) fn repeated_b(
-    execution: &impl Execution,
-    alloc: Global,
-    meter: &mut Meter,
-    item: bool,
-    count: usize,
-) -> Result<Product, OutOfMemory>
-    ensures makes { IfOk result (λ product. effect_of product ≡ made (Judged.RepeatBool item count)) }
-    ensures counted { CountsRun result meter.old meter.new }
-{
-    let whole = one_segment(alloc, count)?;
-    stored_bools(distribute_b(execution, alloc, meter, &[item], &whole))
-}
-
-/// So many numbers from the start on, each a stride above the one before.
-pub(crate) fn indexed(
-    execution: &impl Execution,
-    alloc: Global,
-    meter: &mut Meter,
-    start: i64,
-    stride: i64,
-    count: usize,
-) -> Result<Product, OutOfMemory>
-    ensures makes { IfOk result (λ product. effect_of product ≡ made (Judged.Index start stride count)) }
-    ensures counted { CountsRun result meter.old meter.new }
-{
-    let whole = one_segment(alloc, count)?;
-    stored_ints(index(execution, alloc, meter, &[start], &[stride], &whole))
-}
 
 /// Each item as often as its segment is long.
 #[inline(always)]
@@ -162,8 +38,7 @@ pub(crate) fn distributed(
 }
 
 /// Each item at the place that the index holds beside it, in its segment.
-#[inline(always)]
-fn permuted_segments(
+pub(crate) fn permuted_segments(
     execution: &impl Execution,
     alloc: Global,
     meter: &mut Meter,
@@ -171,8 +46,8 @@ fn permuted_segments(
     places: &[i64],
     segments: &Segd,
 ) -> Result<Product, OutOfMemory>
-    requires { IsReady (Judged.Permute items places (Some segments)) }
-    ensures makes { IfOk result (λ product. effect_of product ≡ made (Judged.Permute items.entry places.entry (Some segments.entry))) }
+    requires { IsReady (Judged.PermuteSegments items places segments) }
+    ensures makes { IfOk result (λ product. effect_of product ≡ made (Judged.PermuteSegments items.entry places.entry segments.entry)) }
     ensures counted { CountsRun result meter.old meter.new }
 {
     match items {
@@ -182,41 +57,20 @@ fn permuted_segments(
 }
 
 /// Each item at the place that the index holds beside it.
-#[inline(always)]
-fn permuted_whole(
-    execution: &impl Execution,
-    alloc: Global,
-    meter: &mut Meter,
-    items: Vector<'_>,
-    places: &[i64],
-) -> Result<Product, OutOfMemory>
-    requires { IsReady (Judged.Permute items places None) }
-    ensures makes { IfOk result (λ product. effect_of product ≡ made (Judged.Permute items.entry places.entry None)) }
-    ensures counted { CountsRun result meter.old meter.new }
-{
-    let whole = one_segment(alloc, places.len())?;
-    match items {
-        Vector::Ints(xs) => stored_ints(permute_z(execution, alloc, meter, xs, places, &whole)),
-        Vector::Bools(xs) => stored_bools(permute_b(execution, alloc, meter, xs, places, &whole)),
-    }
-}
-
-/// Each item at the place that the index holds beside it, of all places or of those of its segment.
 pub(crate) fn permuted(
     execution: &impl Execution,
     alloc: Global,
     meter: &mut Meter,
     items: Vector<'_>,
     places: &[i64],
-    segments: Option<&Segd>,
 ) -> Result<Product, OutOfMemory>
-    requires { IsReady (Judged.Permute items places segments) }
-    ensures makes { IfOk result (λ product. effect_of product ≡ made (Judged.Permute items.entry places.entry segments.entry)) }
+    requires { IsReady (Judged.Permute items places) }
+    ensures makes { IfOk result (λ product. effect_of product ≡ made (Judged.Permute items.entry places.entry)) }
     ensures counted { CountsRun result meter.old meter.new }
 {
-    match segments {
-        Some(segments) => permuted_segments(execution, alloc, meter, items, places, segments),
-        None => permuted_whole(execution, alloc, meter, items, places),
+    match items {
+        Vector::Ints(xs) => stored_ints(permute_whole_z(execution, alloc, meter, xs, places)),
+        Vector::Bools(xs) => stored_bools(permute_whole_b(execution, alloc, meter, xs, places)),
     }
 }
 

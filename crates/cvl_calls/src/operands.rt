@@ -97,7 +97,8 @@ pub(crate) fn check_length(limit: usize, len: usize) -> Result<(), Fault>
 
 /// The number of items that a number asks for.
 pub(crate) fn count(limit: usize, n: i64) -> Result<usize, Fault>
-    ensures { viewed (λ k. k) result ≡ count limit (NumberGiven n) }
+    ensures items { viewed (λ k. k) result ≡ count limit (NumberGiven n) }
+    ensures within { IfOk result (λ k. k ≤ limit) }
 {
     if n < 0 {
         return Err(Fault::WrongLength);

@@ -13,8 +13,9 @@ use crate::stored::{stored_bools, stored_ints};
 use cvl_text::Reply;
 use permute_kernels::packed_lengths;
 use scan_kernels::{
-    Execution, Meter, compare2, index, map1_b, map1_z, map2_b, map2_z, number, reduce_b, reduce_z,
-    scan_b, scan_z, select_b, select_z, truth,
+    Execution, Meter, compare2, index, index_whole, map1_b, map1_z, map2_b, map2_z, number,
+    reduce_b, reduce_whole_b, reduce_whole_z, reduce_z, repeat_b, repeat_z, scan_b, scan_whole_b,
+    scan_whole_z, scan_z, select_b, select_z, truth,
 };
 use segment_desc::OutOfMemory;
 use std::alloc::Global;
@@ -54,36 +55,41 @@ pub fn run(
         Judged::SelectBools(flags, xs, ys) => stored_bools(select_b(
             execution, alloc, meter, flags, xs, ys,
         )),
-        Judged::ScanInts(op, xs, None) => scanned_z(execution, alloc, meter, op, xs),
-        Judged::ScanInts(op, xs, Some(segments)) => stored_ints(scan_z(
+        Judged::ScanInts(op, xs) => stored_ints(scan_whole_z(execution, alloc, meter, op, xs)),
+        Judged::ScanIntSegments(op, xs, segments) => stored_ints(scan_z(
             execution, alloc, meter, op, xs, segments,
         )),
-        Judged::ScanBools(op, xs, None) => scanned_b(execution, alloc, meter, op, xs),
-        Judged::ScanBools(op, xs, Some(segments)) => stored_bools(scan_b(
+        Judged::ScanBools(op, xs) => stored_bools(scan_whole_b(execution, alloc, meter, op, xs)),
+        Judged::ScanBoolSegments(op, xs, segments) => stored_bools(scan_b(
             execution, alloc, meter, op, xs, segments,
         )),
-        Judged::ReduceInts(op, xs) => reduced_z(execution, alloc, meter, op, xs),
-        Judged::ReduceBools(op, xs) => reduced_b(execution, alloc, meter, op, xs),
+        Judged::ReduceInts(op, xs) => Ok(Product::Reply(Reply::Int(reduce_whole_z(
+            execution, meter, op, xs,
+        )))),
+        Judged::ReduceBools(op, xs) => Ok(Product::Reply(Reply::Bool(reduce_whole_b(
+            execution, meter, op, xs,
+        )))),
         Judged::ReduceIntSegments(op, xs, segments) => stored_ints(reduce_z(
             execution, alloc, meter, op, xs, segments,
         )),
         Judged::ReduceBoolSegments(op, xs, segments) => stored_bools(reduce_b(
             execution, alloc, meter, op, xs, segments,
         )),
-        Judged::RepeatInt(x, count) => repeated_z(execution, alloc, meter, x, count),
-        Judged::RepeatBool(x, count) => repeated_b(execution, alloc, meter, x, count),
+        Judged::RepeatInt(x, count) => stored_ints(repeat_z(execution, alloc, meter, x, count)),
+        Judged::RepeatBool(x, count) => stored_bools(repeat_b(execution, alloc, meter, x, count)),
         Judged::Distribute(items, segments) => distributed(
             execution, alloc, meter, items, segments,
         ),
-        Judged::Index(start, stride, count) => indexed(
+        Judged::Index(start, stride, count) => stored_ints(index_whole(
             execution, alloc, meter, start, stride, count,
-        ),
+        )),
         Judged::IndexSegments(starts, strides, segments) => stored_ints(index(
             execution, alloc, meter, starts, strides, segments,
         )),
-        Judged::Permute(items, places, segments) => {
-            permuted(execution, alloc, meter, items, places, segments)
-        }
+        Judged::Permute(items, places) => permuted(execution, alloc, meter, items, places),
+        Judged::PermuteSegments(items, places, segments) => permuted_segments(
+            execution, alloc, meter, items, places, segments,
+        ),
         Judged::Gather(items, places) => gathered(execution, alloc, meter, items, places),
         Judged::GatherSegments(items, source, places, by) => gathered_segments(
             execution, alloc, meter, items, source, places, by,

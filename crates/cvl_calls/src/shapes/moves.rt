@@ -34,7 +34,7 @@ pub(crate) fn permute<'a>(
     let places = ints(memory, i)?;
     same_length(xs.len(), places.len())?;
     permutes_whole(alloc, places)?;
-    Ok(Judged::Permute(xs, places, None))
+    Ok(Judged::Permute(xs, places))
 }
 
 #[tactic(auto, unfolding(crate::specs::Work::permute_segments))]
@@ -55,7 +55,7 @@ pub(crate) fn permute_segments<'a>(
     same_length(xs.len(), places.len())?;
     has_all(segments, xs.len())?;
     permutes(alloc, places, segments)?;
-    Ok(Judged::Permute(xs, places, Some(segments)))
+    Ok(Judged::PermuteSegments(xs, places, segments))
 }
 
 #[tactic(auto, unfolding(crate::specs::Work::gather))]

@@ -23,7 +23,7 @@ use vector_memory::{Memory, Name};
 pub(crate) fn scan_ints<'a>(memory: &'a Memory, op: ScanZ, a: &Name) -> Result<Judged<'a>, Fault>
     ensures { Judges (words.One (ones.ScanZ op)) (scan integers (combine_z op) (unit_z op) (Held (value_at memory.now a.now))) result }
 {
-    Ok(Judged::ScanInts(op, ints(memory, a)?, None))
+    Ok(Judged::ScanInts(op, ints(memory, a)?))
 }
 
 #[tactic(auto, unfolding(crate::specs::Work::scan_segments))]
@@ -39,7 +39,7 @@ pub(crate) fn scan_int_segments<'a>(
     let xs = ints(memory, a)?;
     let segments = segs(memory, s)?;
     has_all(segments, xs.len())?;
-    Ok(Judged::ScanInts(op, xs, Some(segments)))
+    Ok(Judged::ScanIntSegments(op, xs, segments))
 }
 
 #[tactic(auto, unfolding(crate::specs::Work::reduce))]
@@ -71,7 +71,7 @@ pub(crate) fn reduce_int_segments<'a>(
 pub(crate) fn scan_bools<'a>(memory: &'a Memory, op: ScanB, a: &Name) -> Result<Judged<'a>, Fault>
     ensures { Judges (words.One (ones.ScanB op)) (scan truths (combine_b op) (unit_b op) (Held (value_at memory.now a.now))) result }
 {
-    Ok(Judged::ScanBools(op, bools(memory, a)?, None))
+    Ok(Judged::ScanBools(op, bools(memory, a)?))
 }
 
 #[tactic(auto, unfolding(crate::specs::Work::scan_segments))]
@@ -87,7 +87,7 @@ pub(crate) fn scan_bool_segments<'a>(
     let xs = bools(memory, a)?;
     let segments = segs(memory, s)?;
     has_all(segments, xs.len())?;
-    Ok(Judged::ScanBools(op, xs, Some(segments)))
+    Ok(Judged::ScanBoolSegments(op, xs, segments))
 }
 
 #[tactic(auto, unfolding(crate::specs::Work::reduce))]

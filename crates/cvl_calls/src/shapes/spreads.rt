@@ -1,5 +1,7 @@
 //! One value many times over, and numbers that rise by a stride.
 
+ghost use Rattle.std.specs.Prelude.{◌≤◌};
+ghost use Rattle.segment_desc.specs.Lengths.{most};
 ghost use Rattle.vector_memory.specs.States.{value_at};
 ghost use Rattle.cvl_text.specs.declared.word.ThreeWord.TheVariants as threes;
 ghost use Rattle.cvl_text.specs.declared.word.TwoWord.TheVariants as twos;
@@ -50,6 +52,7 @@ pub(crate) fn distribute<'a>(
 #[tactic(auto, unfolding(crate::specs::Work::index))]
 #[inline(always)]
 pub(crate) fn index(limit: usize, u: i64, v: i64, n: i64) -> Result<Judged<'static>, Fault>
+    requires { limit ≤ most }
     ensures { Judges words.Ind (index limit (NumberGiven u) (NumberGiven v) (NumberGiven n)) result }
 {
     Ok(Judged::Index(u, v, count(limit, n)?))

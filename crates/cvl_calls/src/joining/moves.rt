@@ -1,0 +1,116 @@
+//! Permutes and back permutes.
+
+ghost use Rattle.cvl_text.specs.declared.word.Kind.TheVariants as kinds;
+ghost use Rattle.cvl_text.specs.declared.word.ThreeWord.TheVariants as threes;
+ghost use Rattle.cvl_text.specs.declared.word.TwoWord.TheVariants as twos;
+ghost use Rattle.cvl_text.specs.declared.word.Word.TheVariants as words;
+
+use crate::joining::group::Joins;
+use crate::judged::Judged;
+use crate::operands::Vector;
+use permute_kernels::{BackPermute, Gather, Permute, PermuteWhole};
+use segment_desc::Segd;
+
+// `smp_puz`.
+impl<'a> Joins<'a, (&'a [i64], &'a [i64]), i64> for PermuteWhole {
+    ghost word = { λ kernel. words.Two (twos.Smp kinds.Z) };
+
+    fn part(self, judged: &Judged<'a>) -> (&'a [i64], &'a [i64]) {
+        match judged {
+            Judged::Permute(Vector::Ints(xs), places) => (*xs, *places),
+            _ => unreachable!(),
+        }
+    }
+}
+
+// `smp_pez`.
+impl<'a> Joins<'a, (&'a [i64], &'a [i64], &'a Segd), i64> for Permute {
+    ghost word = { λ kernel. words.Three (threes.SmpSeg kinds.Z) };
+
+    fn part(self, judged: &Judged<'a>) -> (&'a [i64], &'a [i64], &'a Segd) {
+        match judged {
+            Judged::PermuteSegments(Vector::Ints(xs), places, segments) => (
+                *xs, *places, *segments,
+            ),
+            _ => unreachable!(),
+        }
+    }
+}
+
+// `bck_puz`.
+impl<'a> Joins<'a, (&'a [i64], &'a [i64]), i64> for Gather {
+    ghost word = { λ kernel. words.Two (twos.Bck kinds.Z) };
+
+    fn part(self, judged: &Judged<'a>) -> (&'a [i64], &'a [i64]) {
+        match judged {
+            Judged::Gather(Vector::Ints(xs), places) => (*xs, *places),
+            _ => unreachable!(),
+        }
+    }
+}
+
+// `bck_pez`.
+impl<'a> Joins<'a, (&'a [i64], &'a Segd, &'a [i64], &'a Segd), i64> for BackPermute {
+    ghost word = { λ kernel. words.BckSeg kinds.Z };
+
+    fn part(self, judged: &Judged<'a>) -> (&'a [i64], &'a Segd, &'a [i64], &'a Segd) {
+        match judged {
+            Judged::GatherSegments(Vector::Ints(xs), source, places, by) => (
+                *xs, *source, *places, *by,
+            ),
+            _ => unreachable!(),
+        }
+    }
+}
+
+// `smp_pub`.
+impl<'a> Joins<'a, (&'a [bool], &'a [i64]), bool> for PermuteWhole {
+    ghost word = { λ kernel. words.Two (twos.Smp kinds.B) };
+
+    fn part(self, judged: &Judged<'a>) -> (&'a [bool], &'a [i64]) {
+        match judged {
+            Judged::Permute(Vector::Bools(xs), places) => (*xs, *places),
+            _ => unreachable!(),
+        }
+    }
+}
+
+// `smp_peb`.
+impl<'a> Joins<'a, (&'a [bool], &'a [i64], &'a Segd), bool> for Permute {
+    ghost word = { λ kernel. words.Three (threes.SmpSeg kinds.B) };
+
+    fn part(self, judged: &Judged<'a>) -> (&'a [bool], &'a [i64], &'a Segd) {
+        match judged {
+            Judged::PermuteSegments(Vector::Bools(xs), places, segments) => (
+                *xs, *places, *segments,
+            ),
+            _ => unreachable!(),
+        }
+    }
+}
+
+// `bck_pub`.
+impl<'a> Joins<'a, (&'a [bool], &'a [i64]), bool> for Gather {
+    ghost word = { λ kernel. words.Two (twos.Bck kinds.B) };
+
+    fn part(self, judged: &Judged<'a>) -> (&'a [bool], &'a [i64]) {
+        match judged {
+            Judged::Gather(Vector::Bools(xs), places) => (*xs, *places),
+            _ => unreachable!(),
+        }
+    }
+}
+
+// `bck_peb`.
+impl<'a> Joins<'a, (&'a [bool], &'a Segd, &'a [i64], &'a Segd), bool> for BackPermute {
+    ghost word = { λ kernel. words.BckSeg kinds.B };
+
+    fn part(self, judged: &Judged<'a>) -> (&'a [bool], &'a Segd, &'a [i64], &'a Segd) {
+        match judged {
+            Judged::GatherSegments(Vector::Bools(xs), source, places, by) => (
+                *xs, *source, *places, *by,
+            ),
+            _ => unreachable!(),
+        }
+    }
+}

@@ -1,0 +1,72 @@
+//! Packs.
+
+ghost use Rattle.cvl_text.specs.declared.word.Kind.TheVariants as kinds;
+ghost use Rattle.cvl_text.specs.declared.word.ThreeWord.TheVariants as threes;
+ghost use Rattle.cvl_text.specs.declared.word.TwoWord.TheVariants as twos;
+ghost use Rattle.cvl_text.specs.declared.word.Word.TheVariants as words;
+
+use crate::joining::group::Joins;
+use crate::judged::Judged;
+use crate::operands::Vector;
+use permute_kernels::{Pack, PackLengths, PackSegments};
+use segment_desc::Segd;
+
+// `pck_puz`.
+impl<'a> Joins<'a, (&'a [i64], &'a [bool]), i64> for Pack {
+    ghost word = { λ kernel. words.Two (twos.Pck kinds.Z) };
+
+    fn part(self, judged: &Judged<'a>) -> (&'a [i64], &'a [bool]) {
+        match judged {
+            Judged::Pack(Vector::Ints(xs), flags) => (*xs, *flags),
+            _ => unreachable!(),
+        }
+    }
+}
+
+// `pck_pez`.
+impl<'a> Joins<'a, (&'a [i64], &'a [bool], &'a Segd), i64> for PackSegments {
+    ghost word = { λ kernel. words.Three (threes.PckSeg kinds.Z) };
+
+    fn part(self, judged: &Judged<'a>) -> (&'a [i64], &'a [bool], &'a Segd) {
+        match judged {
+            Judged::PackSegments(Vector::Ints(xs), flags, segments) => (*xs, *flags, *segments),
+            _ => unreachable!(),
+        }
+    }
+}
+
+// `pck_pub`.
+impl<'a> Joins<'a, (&'a [bool], &'a [bool]), bool> for Pack {
+    ghost word = { λ kernel. words.Two (twos.Pck kinds.B) };
+
+    fn part(self, judged: &Judged<'a>) -> (&'a [bool], &'a [bool]) {
+        match judged {
+            Judged::Pack(Vector::Bools(xs), flags) => (*xs, *flags),
+            _ => unreachable!(),
+        }
+    }
+}
+
+// `pck_peb`.
+impl<'a> Joins<'a, (&'a [bool], &'a [bool], &'a Segd), bool> for PackSegments {
+    ghost word = { λ kernel. words.Three (threes.PckSeg kinds.B) };
+
+    fn part(self, judged: &Judged<'a>) -> (&'a [bool], &'a [bool], &'a Segd) {
+        match judged {
+            Judged::PackSegments(Vector::Bools(xs), flags, segments) => (*xs, *flags, *segments),
+            _ => unreachable!(),
+        }
+    }
+}
+
+// `pkl_leb`.
+impl<'a> Joins<'a, (&'a [bool], &'a Segd), i64> for PackLengths {
+    ghost word = { λ kernel. words.Two twos.Pkl };
+
+    fn part(self, judged: &Judged<'a>) -> (&'a [bool], &'a Segd) {
+        match judged {
+            Judged::PackLengths(flags, segments) => (*flags, *segments),
+            _ => unreachable!(),
+        }
+    }
+}
