@@ -2,3 +2,9 @@ pub mod Turning
 pub mod WaveLemmas
 pub mod ApartLemmas
 pub mod PlanLemmas
+pub mod PlaceLemmas
+pub mod RollLemmas
+pub mod ServingLemmas
+pub mod WavePlaces
+pub mod CountLemmas
+pub mod BatchLemmas

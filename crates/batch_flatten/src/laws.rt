@@ -7,6 +7,15 @@ ghost use Rattle.cvl_calls.specs.Steps.{work_on};
 ghost use Rattle.batch_flatten.specs.Waves.{clashes, waves_of};
 ghost use Rattle.batch_flatten.specs.Turns.{memory_after, answers_after, memory_done, answers_done, ReadsNoTarget, IsWave};
 
+mod joining;
+
+pub use joining::{
+    back_permutes_join, distributions_join, gathers_join, indices_join, maps_join,
+    packed_lengths_join, packs_join, paired_maps_join, permutes_join, reductions_join,
+    repeats_join, scans_join, selects_join, whole_indices_join, whole_permutes_join,
+    whole_reductions_join, whole_scans_join,
+};
+
 /// A call that reads the target of none of the calls before it makes of the memory before them what it makes at its own turn.
 /// So calls of which none reads the target of an earlier one leave and reply what they leave and reply one after the other,
 /// where all of them see the memory before the first.

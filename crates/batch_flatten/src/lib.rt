@@ -8,8 +8,15 @@
 pub mod laws;
 mod plan;
 mod planning;
+mod ran;
+mod roll;
+mod running;
 #[cfg(test)]
 mod tests;
+mod turn;
+mod wave;
 
 pub use plan::BATCH_LIMIT;
 pub use planning::{clashes, waves};
+pub use ran::Ran;
+pub use running::run_batch;

@@ -1,0 +1,234 @@
+-- A batch under way goes on by one turn: `serving_start`, `serving_turn` and `serving_end`. What was back stays back but at the
+-- place of the turn (`back-turn`), and what takes no memory is answered there (`sure-turn`).
+use Rattle.std.proofs.Common.{◌≡◌, ℕ, zero, suc, ◌<◌, ◌+◌, All, List, [], ◌∷◌, ◌++◌, length, map, filter, take, Option, Some, refl, sym, ap, ◌∙◌, subst, arith, append-nil, append_assoc, get_or, slice_get, slice_index, set}
+use Rattle.std.specs.List.{AllPairs, zip}
+use Rattle.std.specs.Option.{option_map}
+use Rattle.std.proofs.lemmas.List.{length-map, length-set, map-append, take_more}
+use Rattle.std.proofs.lemmas.List.Elements.{filter-append}
+use Rattle.std.proofs.lemmas.Option.{slice_get-get_or}
+use mathlib.Core.Logic.{dite}
+use native.Mathlib.Decide.{ℕ_discrete}
+use Rattle.cvl_text.specs.declared.call.Call.{Call}
+use Rattle.cvl_text.specs.Tasks.{task_of}
+use Rattle.cvl_calls.specs.Runs.{TakesNoMemory}
+use Rattle.call_history.specs.declared.entry.Entry.{Entry}
+use Rattle.call_history.specs.declared.request.Request.{Request}
+use Rattle.call_history.specs.declared.request.Outcome.{Outcome}
+use Rattle.call_history.specs.declared.request.Outcome.TheVariants.{Answered, Refused}
+use Rattle.call_history.specs.Books.{BookState}
+use Rattle.call_history.specs.Callers.{next_entry}
+use Rattle.call_history.specs.Fits.{Fits, IsAskedAt, request, returned}
+use Rattle.call_history.specs.History.{reply_after}
+use Rattle.call_history.proofs.InPlace.{fits_answered_at, fits_returned}
+use Rattle.batch_flatten.specs.Waves.{asked, count_of, in_order, waves_of}
+use Rattle.batch_flatten.specs.Places.{IsOutside, at_places, places_of_first}
+use Rattle.batch_flatten.specs.Batches.{IsAnswered, Runs, ServesInOrder, answered, is_answered, request_of}
+use Rattle.batch_flatten.specs.Serving.{AnswersIfSure, AnswersSure, AreAskedBy, RunsBack, Serving, WereBack, caller_of}
+use Rattle.batch_flatten.proofs.PlaceLemmas.{at_places-in_order, at_places-push, rising-outside, set_itself, slice_get-set_else, slice_get-set_here}
+
+outside-parts : (done more : List ℕ) (place : ℕ) → IsOutside (done ++ more) place → IsOutside done place × IsOutside more place
+outside-parts [] more place out = (tt, out)
+outside-parts (p ∷ ps) more place out = let rest = outside-parts ps more place out.1 in ((out.0, rest.0), rest.1)
+
+pub outside-append : (done more : List ℕ) (place : ℕ) → IsOutside done place → IsOutside more place → IsOutside (done ++ more) place
+outside-append [] more place out others = others
+outside-append (p ∷ ps) more place out others = (out.0, outside-append ps more place out.1 others)
+
+zip-set : (rs : List Request) (os : List Outcome) (i : ℕ) (r : Request) (o : Outcome) → slice_get rs i ≡ Some r → zip rs (set os i o) ≡ set (zip rs os) i (r, o)
+zip-set [] os i r o there = absurd cc
+zip-set (x ∷ rs) [] i r o there = refl
+zip-set (x ∷ rs) (y ∷ os) zero r o there = let same : x ≡ r = cc in ap (λ (z : Request). (z, o) ∷ zip rs os) same
+zip-set (x ∷ rs) (y ∷ os) (suc i) r o there = ap (λ l. (x, y) ∷ l) (zip-set rs os i r o there)
+
+slice_get-zip : (rs : List Request) (os : List Outcome) (i : ℕ) (r : Request) (o : Outcome) → slice_get rs i ≡ Some r → slice_get os i ≡ Some o → slice_get (zip rs os) i ≡ Some (r, o)
+slice_get-zip [] os i r o there has = absurd cc
+slice_get-zip (x ∷ rs) [] i r o there has = absurd cc
+slice_get-zip (x ∷ rs) (y ∷ os) zero r o there has = let same : x ≡ r = cc in let here : y ≡ o = cc in λ j. Some (same j, here j)
+slice_get-zip (x ∷ rs) (y ∷ os) (suc i) r o there has = slice_get-zip rs os i r o there has
+
+answered-append : (ps qs : List (Request × Outcome)) → answered (ps ++ qs) ≡ answered ps ++ answered qs
+answered-append ps qs = ap (map (λ p. p.0)) (filter-append (λ p. is_answered p.1) ps qs) ∙ map-append (λ p. p.0) (filter (λ p. is_answered p.1) ps) (filter (λ p. is_answered p.1) qs)
+
+fits_run : (room : ℕ) (line : List Entry) (rs : List Request) (os : List Outcome) (old new : BookState) (i k : ℕ) (call : Call) (o : Outcome) → old.room ≡ room → IsAskedAt rs i k call → slice_get os i ≡ Some (Refused call)
+    → Runs old new k call o → Fits room line rs old.history os → Fits room line rs new.history (set os i o)
+fits_run room line rs os old new i k call (Answered place reply) same at back runs f =
+    subst (λ (z : List Entry × ℕ). Fits room line rs z.0 (set os i (Answered z.1 reply))) (λ j. (sym runs.1 j, sym runs.2 j))
+    (fits_answered_at room line old.history rs os i k _ call reply at back (runs.3 ∙ ap (λ (r : ℕ). reply_after r old.history call) same) f)
+fits_run room line rs os old new i k call (Refused back) same at was runs f =
+    subst (λ (z : List Entry × (List Outcome)). Fits room line rs z.0 z.1) (λ j. (sym runs.1 j, sym (ap (λ (c : Call). set os i (Refused c)) runs.2 ∙ set_itself os i (Refused call) was) j)) f
+
+-- the outcome at a place that had no turn is the call back
+waits : (room : ℕ) (line : List Entry) (rs : List Request) (done : List ℕ) (place : ℕ) (mid : List Entry) (os : List Outcome) (k : ℕ) (call : Call) → Serving room line rs done mid os → IsOutside done place
+    → IsAskedAt rs place k call → slice_get os place ≡ Some (Refused call)
+waits room line rs done place mid os k call s out at = s.waiting place out ∙ ap (option_map returned) at.there
+
+still_wait : (rs : List Request) (done : List ℕ) (place : ℕ) (os : List Outcome) (o : Outcome) → ((p : ℕ) → IsOutside done p → slice_get os p ≡ option_map returned (slice_get rs p))
+    → (p : ℕ) → IsOutside (done ++ place ∷ []) p → slice_get (set os place o) p ≡ option_map returned (slice_get rs p)
+still_wait rs done place os o waiting p out =
+    let parts = outside-parts done (place ∷ []) p out in
+    slice_get-set_else os place p o (λ e. parts.1.0 (sym e)) ∙ waiting p parts.0
+
+turn-done : (rs : List Request) (done : List ℕ) (place : ℕ) (os : List Outcome) (r : Request) (was o : Outcome) → IsOutside done place → slice_get rs place ≡ Some r → slice_get os place ≡ Some was
+    → answered (at_places (zip rs (set os place o)) (done ++ place ∷ [])) ≡ answered (at_places (zip rs os) done) ++ answered ((r, o) ∷ [])
+turn-done rs done place os r was o out asked has =
+    ap (λ ps. answered (at_places ps (done ++ place ∷ []))) (zip-set rs os place r o asked)
+    ∙ ap answered (at_places-push (zip rs os) place (r, was) (r, o) done out (slice_get-zip rs os place r was asked has))
+    ∙ answered-append (at_places (zip rs os) done) ((r, o) ∷ [])
+
+serving_run : (room : ℕ) (line : List Entry) (rs : List Request) (done : List ℕ) (place : ℕ) (old new : BookState) (os : List Outcome) (k : ℕ) (call : Call) (o : Outcome) → old.room ≡ room
+    → Serving room line rs done old.history os → IsOutside done place → IsAskedAt rs place k call → Runs old new k call o → Serving room line rs (done ++ place ∷ []) new.history (set os place o)
+serving_run room line rs done place old new os k call (Answered at reply) same s out asks runs =
+    let back = waits room line rs done place old.history os k call s out asks in
+    let e = next_entry old.history k call in
+    record {
+      fits = fits_run room line rs os old new place k call (Answered at reply) same asks back runs s.fits;
+      paired = length-set os place (Answered at reply) ∙ s.paired;
+      added = s.added ++ e ∷ [];
+      grown = runs.1 ∙ ap (λ l. l ++ e ∷ []) s.grown ∙ append_assoc line s.added (e ∷ []);
+      ordered = map-append request_of s.added (e ∷ []) ∙ ap (λ l. l ++ request k call ∷ []) s.ordered
+          ∙ sym (turn-done rs done place os (request k call) (Refused call) (Answered at reply) out asks.there back);
+      waiting = still_wait rs done place os (Answered at reply) s.waiting;
+    }
+serving_run room line rs done place old new os k call (Refused came) same s out asks runs =
+    let back = waits room line rs done place old.history os k call s out asks in
+    record {
+      fits = fits_run room line rs os old new place k call (Refused came) same asks back runs s.fits;
+      paired = length-set os place (Refused came) ∙ s.paired;
+      added = s.added;
+      grown = runs.1 ∙ s.grown;
+      ordered = s.ordered ∙ sym (append-nil (answered (at_places (zip rs os) done)))
+          ∙ sym (turn-done rs done place os (request k call) (Refused call) (Refused came) out asks.there back);
+      waiting = still_wait rs done place os (Refused came) s.waiting;
+    }
+
+place_in : {X : Type 0} (xs : List X) (i : ℕ) → i < length xs → (x : X) × (slice_get xs i ≡ Some x)
+place_in [] i lt = absurd (omega arith)
+place_in (x ∷ xs) zero lt = (x, refl)
+place_in (x ∷ xs) (suc i) lt = place_in xs i (omega arith)
+
+slice_get-take : {X : Type 0} (xs : List X) (n i : ℕ) → i < n → slice_get (take n xs) i ≡ slice_get xs i
+slice_get-take xs zero i lt = absurd (omega arith)
+slice_get-take [] (suc n) i lt = refl
+slice_get-take (x ∷ xs) (suc n) zero lt = refl
+slice_get-take (x ∷ xs) (suc n) (suc i) lt = slice_get-take xs n i (omega arith)
+
+slice_index-at : (ns : List ℕ) (i n : ℕ) → slice_get ns i ≡ Some n → slice_index ns i ≡ n
+slice_index-at [] i n h = absurd cc
+slice_index-at (m ∷ ns) zero n h = cc
+slice_index-at (m ∷ ns) (suc i) n h = slice_index-at ns i n h
+
+slice_get-callers : (rs : List Request) (i : ℕ) (r : Request) → slice_get rs i ≡ Some r → slice_get (map caller_of rs) i ≡ Some r.caller
+slice_get-callers [] i r there = absurd cc
+slice_get-callers (x ∷ rs) zero r there = let same : x ≡ r = cc in ap (λ (z : Request). Some z.caller) same
+slice_get-callers (x ∷ rs) (suc i) r there = slice_get-callers rs i r there
+
+caller_here : (rs : List Request) (callers : List ℕ) (i : ℕ) (r : Request) → AreAskedBy rs callers → i < length rs → slice_get rs i ≡ Some r → slice_index callers i ≡ r.caller
+caller_here rs callers i r by lt there =
+    slice_index-at callers i r.caller (sym (slice_get-take callers (length rs) i lt) ∙ ap (λ (l : List ℕ). slice_get l i) by.callers_are ∙ slice_get-callers rs i r there)
+
+-- what is read at a place stands there
+pub stands-here : (os : List Outcome) (place n : ℕ) (was : Outcome) → place < n → n ≡ length os → was ≡ get_or os place was → slice_get os place ≡ Some was
+stands-here os place n was lt long is = slice_get-get_or os place was (omega arith) ∙ ap (λ (o : Outcome). Some o) (sym is)
+
+some_of : (a b : Outcome) → ◌≡◌ {A = Option Outcome} (Some a) (Some b) → a ≡ b
+some_of a b e = cc
+
+-- the turn of the call at a place
+pub serving_turn : (room : ℕ) (line : List Entry) (rs : List Request) (callers done : List ℕ) (place : ℕ) (old new : BookState) (os : List Outcome) (was o : Outcome) → old.room ≡ room → place < length os
+    → AreAskedBy rs callers → IsOutside done place → slice_get os place ≡ Some was → RunsBack old new (slice_index callers place) was o
+    → Serving room line rs done old.history os → Serving room line rs (done ++ place ∷ []) new.history (set os place o)
+serving_turn room line rs callers done place old new os was o same within by out has ran s =
+    let paired = s.paired in
+    let lt : place < length rs = omega arith in
+    let found = place_in rs place lt in
+    let r = found.0 in
+    let asks : IsAskedAt rs place r.caller r.call = by.each place r.caller r.call found.1 in
+    let back = waits room line rs done place old.history os r.caller r.call s out asks in
+    let is : was ≡ Refused r.call = some_of was (Refused r.call) (sym has ∙ back) in
+    let ran_back : RunsBack old new (slice_index callers place) (Refused r.call) o = subst (λ (z : Outcome). RunsBack old new (slice_index callers place) z o) is ran in
+    let own : Runs old new r.caller r.call o = subst (λ (k : ℕ). Runs old new k r.call o) (caller_here rs callers place r by lt found.1) ran_back in
+    serving_run room line rs done place old new os r.caller r.call o same s out asks own
+
+pub serving_start : (room : ℕ) (line : List Entry) (rs : List Request) → Serving room line rs [] line (map returned rs)
+serving_start room line rs = record {
+  fits = fits_returned room line rs;
+  paired = length-map rs returned;
+  added = [];
+  grown = sym (append-nil line);
+  ordered = refl;
+  waiting = λ place out. at_place rs place;
+}
+  where
+    at_place : (qs : List Request) (j : ℕ) → slice_get (map returned qs) j ≡ option_map returned (slice_get qs j)
+    at_place [] j = refl
+    at_place (q ∷ qs) zero = refl
+    at_place (q ∷ qs) (suc j) = at_place qs j
+
+-- what runs back was back
+run-back : (old new : BookState) (k : ℕ) (was o : Outcome) (c : Call) → RunsBack old new k was o → o ≡ Refused c → was ≡ Refused c
+run-back old new k (Refused b) (Refused a) c runs is = let same : a ≡ c = cc in ap (λ (z : Call). Refused z) (sym runs.2 ∙ same)
+run-back old new k (Refused b) (Answered place reply) c runs is = absurd cc
+run-back old new k (Answered place reply) o c runs is = let other : Answered place reply ≡ Refused c = sym runs.2 ∙ is in absurd cc
+
+-- what is back behind the turn was back before
+pub back-turn : (old new : BookState) (k : ℕ) (os : List Outcome) (place : ℕ) (was o : Outcome) → slice_get os place ≡ Some was → RunsBack old new k was o → WereBack os (set os place o)
+back-turn old new k os place was o there runs j c at = dite (ℕ_discrete j place)
+    (λ same. let here : o ≡ Refused c = some_of o (Refused c) (sym (slice_get-set_here os place was o there) ∙ ap (slice_get (set os place o)) (sym same) ∙ at) in
+    ap (slice_get os) same ∙ there ∙ ap (λ (z : Outcome). Some z) (run-back old new k was o c runs here))
+    (λ other. sym (slice_get-set_else os place j o other) ∙ at)
+
+pub back-again : (first mid last : List Outcome) → WereBack first mid → WereBack mid last → WereBack first last
+back-again first mid last one two i c at = one i c (two i c at)
+
+sure-here : (was o : Outcome) (c : Call) → (o ≡ Refused c → was ≡ Refused c) → AnswersIfSure was o → o ≡ Refused c → TakesNoMemory (task_of c).word → ⊥
+sure-here (Answered place reply) o c back sure is none = let other : Answered place reply ≡ Refused c = back is in absurd cc
+sure-here (Refused b) o c back sure is none =
+    let same : b ≡ c = inside b c (back is) in
+    let answered : IsAnswered o = sure (subst (λ (z : Call). TakesNoMemory (task_of z).word) (sym same) none) in
+    subst IsAnswered is answered
+  where
+    inside : (a d : Call) → Refused a ≡ Refused d → a ≡ d
+    inside a d e = cc
+
+-- a call that takes no memory and is back behind the turn has not had its own
+pub sure-turn : (old new : BookState) (k : ℕ) (os : List Outcome) (done : List ℕ) (place : ℕ) (was o : Outcome) → slice_get os place ≡ Some was → RunsBack old new k was o → AnswersIfSure was o
+    → AnswersSure os done → AnswersSure (set os place o) (done ++ place ∷ [])
+sure-turn old new k os done place was o there runs sure all = record { waits = waits_at }
+  where
+    waits_at : (j : ℕ) (c : Call) → slice_get (set os place o) j ≡ Some (Refused c) → TakesNoMemory (task_of c).word → IsOutside (done ++ place ∷ []) j
+    waits_at j c at none = dite (ℕ_discrete j place)
+        (λ same. let here : o ≡ Refused c = some_of o (Refused c) (sym (slice_get-set_here os place was o there) ∙ ap (slice_get (set os place o)) (sym same) ∙ at) in
+        absurd (sure-here was o c (run-back old new k was o c runs) sure here none))
+        (λ other. outside-append done (place ∷ []) j (all.waits j c (sym (slice_get-set_else os place j o other) ∙ at) none) ((λ e. other (sym e)), tt))
+
+-- the places of a wave that had their turns, and one more
+pub one-more : (done ps : List ℕ) (k : ℕ) → k < length ps → done ++ take k ps ++ slice_index ps k ∷ [] ≡ done ++ take (k + 1) ps
+one-more done ps k lt = append_assoc done (take k ps) (slice_index ps k ∷ []) ∙ ap (λ l. done ++ l) (sym (take_more ps k 0 lt))
+
+pub serving_more : (room now : ℕ) (line mid : List Entry) (rs : List Request) (done ps : List ℕ) (k place : ℕ) (os : List Outcome) → now ≡ room → place ≡ slice_index ps k → k < length ps
+    → All (IsOutside done) ps → AllPairs (λ p q. p < q) ps → Serving room line rs (done ++ take k ps) mid os
+    → (new : List Entry) (after : List Outcome) → (IsOutside (done ++ take k ps) place → Serving now line rs (done ++ take k ps) mid os → Serving now line rs (done ++ take k ps ++ place ∷ []) new after)
+    → Serving room line rs (done ++ take (k + 1) ps) new after
+serving_more room now line mid rs done ps k place os rooms is lt outside rising s new after turn =
+    let out : IsOutside (done ++ take k ps) place = subst (IsOutside (done ++ take k ps)) (sym is) (outside-append done (take k ps) (slice_index ps k) (outside k 0 lt) (rising-outside ps k rising lt)) in
+    let at_room = subst (λ (r : ℕ). Serving r line rs (done ++ take k ps) mid os) (sym rooms) s in
+    subst (λ (l : List ℕ). Serving room line rs l new after) (ap (λ (p : ℕ). done ++ take k ps ++ p ∷ []) is ∙ one-more done ps k lt)
+    (subst (λ (r : ℕ). Serving r line rs (done ++ take k ps ++ place ∷ []) new after) rooms (turn out at_room))
+
+-- one more wave
+pub serving_wave : (room now : ℕ) (line mid : List Entry) (rs : List Request) (done ps all : List ℕ) (os : List Outcome) (new : List Entry) (after : List Outcome) → now ≡ room → done ++ ps ≡ all
+    → All (IsOutside done) ps → Serving room line rs done mid os → (All (IsOutside done) ps → Serving now line rs done mid os → Serving now line rs (done ++ ps) new after) → Serving room line rs all new after
+serving_wave room now line mid rs done ps all os new after rooms next outside s turns =
+    subst (λ (l : List ℕ). Serving room line rs l new after) next
+    (subst (λ (r : ℕ). Serving r line rs (done ++ ps) new after) rooms (turns outside (subst (λ (r : ℕ). Serving r line rs done mid os) (sym rooms) s)))
+
+-- behind the last wave
+pub serving_end : (room : ℕ) (line : List Entry) (rs : List Request) (ws : List ℕ) (mid : List Entry) (os : List Outcome) → ws ≡ waves_of (map asked rs) → length ws ≡ length (zip rs os)
+    → Serving room line rs (places_of_first ws (count_of ws)) mid os → ServesInOrder room line rs mid os
+serving_end room line rs ws mid os are long s = record {
+  fits = s.fits;
+  paired = s.paired;
+  added = s.added;
+  grown = s.grown;
+  ordered = s.ordered ∙ ap answered (at_places-in_order (zip rs os) ws long) ∙ ap (λ (vs : List ℕ). answered (in_order vs (zip rs os))) are;
+}

@@ -1,0 +1,6 @@
+use Rattle.std.proofs.Common.{sym}
+use Rattle.scan_kernels.proofs.Joining.{segmented_scan-joined}
+use Rattle.batch_flatten.proofs.laws.joining.scans_join.Goals as goal
+
+pub returns : goal.returns
+returns g c = λ op unit lengths items parts total. sym (segmented_scan-joined op unit lengths items parts total)
