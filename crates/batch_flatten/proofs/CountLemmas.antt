@@ -1,11 +1,11 @@
--- Meters that rise: not at all (`rises-none`), with the step of a call (`rises-step`), one after the other (`rises-both`), and by
+-- Meters that rise: not at all (`rises-same`), by one run (`rises-one`), with the step of a call (`rises-kernel`), one after the other (`rises-both`), and by
 -- more at most (`rises-more`).
-use Rattle.std.proofs.Common.{◌≡◌, inl, inr, ℕ, ◌+◌, ◌≤◌, Bool, true, false, Result, Ok, Err, refl, sym, ◌∙◌, subst, arith}
+use Rattle.std.proofs.Common.{◌≡◌, inl, inr, ℕ, ◌+◌, ◌≤◌, Bool, true, false, ◌&&◌, Result, Ok, Err, refl, sym, ◌∙◌, subst, arith}
 use Rattle.scan_kernels.specs.Metering.{Metered, raised}
 use Rattle.cvl_calls.specs.Steps.{CountsStep}
-use Rattle.batch_flatten.specs.Counts.{RisesBy}
+use Rattle.batch_flatten.specs.Counts.{RisesBy, kernels_of}
 
-pub rises-none : (most : ℕ) (m : Metered) → RisesBy most m m
+rises-none : (most : ℕ) (m : Metered) → RisesBy most m m
 rises-none most m = record { within = omega arith; rises = λ fits. (omega arith, fits); chunk = refl }
 
 rises-raised : (m : Metered) → RisesBy 1 m (raised m)
@@ -14,14 +14,19 @@ rises-raised m = record { within = omega arith; rises = λ fits. (omega arith, o
 pub rises-same : (most : ℕ) (old new : Metered) → new ≡ old → RisesBy most old new
 rises-same most old new is = subst (RisesBy most old) (sym is) (rises-none most old)
 
-rises-one : (old new : Metered) → new ≡ raised old → RisesBy 1 old new
+pub rises-one : (old new : Metered) → new ≡ raised old → RisesBy 1 old new
 rises-one old new is = subst (RisesBy 1 old) (sym is) (rises-raised old)
 
-pub rises-step : {X E : Type 0} (runs : Bool) (r : Result X E) (old new : Metered) → CountsStep runs r old new → RisesBy 1 old new
+rises-step : {X E : Type 0} (runs : Bool) (r : Result X E) (old new : Metered) → CountsStep runs r old new → RisesBy 1 old new
 rises-step true (Ok x) old new counted = rises-one old new counted
 rises-step true (Err e) old new (inl stays) = rises-same 1 old new stays
 rises-step true (Err e) old new (inr more) = rises-one old new more
 rises-step false r old new counted = rises-same 1 old new counted
+
+-- the step of a call that runs by itself: one kernel, or none
+pub rises-kernel : {X E : Type 0} (kernel ok : Bool) (r : Result X E) (old new : Metered) → CountsStep (kernel && ok) r old new → RisesBy (kernels_of kernel) old new
+rises-kernel false ok r old new counted = rises-same 0 old new counted
+rises-kernel true ok r old new counted = rises-step ok r old new counted
 
 pub rises-both : (a b most : ℕ) (old mid new : Metered) → a + b ≤ most → RisesBy a old mid → RisesBy b mid new → RisesBy most old new
 rises-both a b most old mid new le one two =

@@ -8,3 +8,6 @@ pub mod ServingLemmas
 pub mod WavePlaces
 pub mod CountLemmas
 pub mod BatchLemmas
+pub mod JoinLemmas
+pub mod DifferentLemmas
+pub mod TurnLemmas

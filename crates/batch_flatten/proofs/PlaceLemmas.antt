@@ -1,9 +1,9 @@
 -- What stands at places of a list: one more place (`at_places-push`), a write at a place outside (`at_places-set`), and all places
--- in the order of the waves (`at_places-in_order`). The places of a wave are found one by one (`places-more`, `places-pass`), and
--- of places that rise each is outside those before it (`rising-outside`).
-use Rattle.std.proofs.Common.{◌≡◌, ◌≢◌, ◌==◌, ℕ, zero, suc, ◌+◌, ◌<◌, ◌≤◌, Bool, true, false, cond, List, [], ◌∷◌, ◌++◌, length, Some, refl, sym, ap, ◌∙◌, arith, add-one, append-nil, append_assoc, length-append, eq-eqb, ne_eqb, slice_get, slice_index, set, take}
+-- in the order of the waves (`at_places-in_order`). A wave is found one by one (`wave-more`, `wave-pass`), and of places
+-- that rise each is outside those before it (`rising-outside`).
+use Rattle.std.proofs.Common.{◌≡◌, ◌≢◌, ◌==◌, ℕ, zero, suc, ◌+◌, ◌<◌, ◌≤◌, Bool, true, false, cond, List, [], ◌∷◌, ◌++◌, length, Some, refl, sym, ap, ◌∙◌, arith, add-one, append-nil, append_assoc, length-append, eq-eqb, ne_eqb, get_or, slice_get, slice_index, set, take}
 use Rattle.std.specs.List.{AllPairs, cons_option, flat_map, range_with_len}
-use Rattle.std.proofs.lemmas.List.{length-take-le, take_more, take_more_set}
+use Rattle.std.proofs.lemmas.List.{length-take-le, take_all, take_more, take_more_set}
 use Rattle.std.proofs.lemmas.List.Concat.{flat_map-append}
 use Rattle.std.proofs.lemmas.List.Elements.{filter_map-append}
 use Rattle.batch_flatten.specs.Waves.{count_of, in_order, in_wave}
@@ -83,7 +83,7 @@ module _ {X : Type 0} where
 pub at_places-in_order : {X : Type 0} (xs : List X) (ws : List ℕ) → length ws ≡ length xs → at_places xs (places_of_first ws (count_of ws)) ≡ in_order ws xs
 at_places-in_order xs ws long = at_places-first xs ws (range_with_len 0 (count_of ws)) long
 
-range-push : (a n : ℕ) → range_with_len a (suc n) ≡ range_with_len a n ++ (a + n) ∷ []
+pub range-push : (a n : ℕ) → range_with_len a (suc n) ≡ range_with_len a n ++ (a + n) ∷ []
 range-push a zero = ap (λ (x : ℕ). x ∷ []) (omega arith)
 range-push a (suc n) =
     let moved : a + 1 + n ≡ a + suc n = omega arith in
@@ -110,33 +110,41 @@ in_wave-push wave w (v ∷ ws) x (y ∷ xs) long = by (v == wave) (in_wave-push 
     by true e = ap (λ l. y ∷ l) e
     by false e = e
 
-length-range : (a n : ℕ) → length (range_with_len a n) ≡ n
+pub length-range : (a n : ℕ) → length (range_with_len a n) ≡ n
 length-range a zero = refl
 length-range a (suc n) = ap suc (length-range (a + 1) n)
 
-in_wave-more : (ws : List ℕ) (wave i : ℕ) → i < length ws → in_wave wave (take (i + 1) ws) (range_with_len 0 (i + 1)) ≡ in_wave wave (take i ws) (range_with_len 0 i) ++ cond (slice_index ws i == wave) (i ∷ []) []
-in_wave-more ws wave i lt =
-    let from_zero : 0 + i ≡ i = omega arith in
-    let long : length (take i ws) ≡ length (range_with_len 0 i) = length-take-le i ws (omega arith) ∙ sym (length-range 0 i) in
-    ap (λ l. in_wave wave l (range_with_len 0 (i + 1))) (take_more ws i 0 lt)
-    ∙ ap (λ n. in_wave wave (take i ws ++ slice_index ws i ∷ []) (range_with_len 0 n)) (add-one i)
-    ∙ ap (in_wave wave (take i ws ++ slice_index ws i ∷ [])) (range-push 0 i ∙ ap (λ (n : ℕ). range_with_len 0 i ++ n ∷ []) from_zero)
-    ∙ in_wave-push wave (slice_index ws i) (take i ws) i (range_with_len 0 i) long
+pub place_in : {X : Type 0} (xs : List X) (i : ℕ) → i < length xs → (x : X) × (slice_get xs i ≡ Some x)
+place_in [] i lt = absurd (omega arith)
+place_in (x ∷ xs) zero lt = (x, refl)
+place_in (x ∷ xs) (suc i) lt = place_in xs i (omega arith)
 
--- the place i is of the wave
-pub places-more : (ws ps : List ℕ) (wave i n : ℕ) → i < length ws → n < length ps → slice_index ws i ≡ wave → take n ps ≡ in_wave wave (take i ws) (range_with_len 0 i)
-    → take (n + 1) (set ps n i) ≡ in_wave wave (take (i + 1) ws) (range_with_len 0 (i + 1))
-places-more ws ps wave i n lt room here found =
-    take_more_set ps n i room ∙ ap (λ l. l ++ i ∷ []) found
-    ∙ ap (λ b. in_wave wave (take i ws) (range_with_len 0 i) ++ cond b (i ∷ []) []) (sym (eq-eqb (slice_index ws i) wave here))
-    ∙ sym (in_wave-more ws wave i lt)
+in_wave-more : {X : Type 0} (ws : List ℕ) (xs : List X) (wave i : ℕ) (d : X) → i < length ws → i < length xs
+    → in_wave wave (take (i + 1) ws) (take (i + 1) xs) ≡ in_wave wave (take i ws) (take i xs) ++ cond (slice_index ws i == wave) (get_or xs i d ∷ []) []
+in_wave-more ws xs wave i d lt within =
+    let long : length (take i ws) ≡ length (take i xs) = length-take-le i ws (omega arith) ∙ sym (length-take-le i xs (omega arith)) in
+    ap (λ l. in_wave wave l (take (i + 1) xs)) (take_more ws i 0 lt)
+    ∙ ap (in_wave wave (take i ws ++ slice_index ws i ∷ [])) (take_more xs i d within)
+    ∙ in_wave-push wave (slice_index ws i) (take i ws) (get_or xs i d) (take i xs) long
+
+-- the place i is of the wave: one more of it
+pub wave-more : {X : Type 0} (ws : List ℕ) (xs ys : List X) (wave i n : ℕ) (x d : X) → i < length ws → i < length xs → n < length ys → slice_index ws i ≡ wave → x ≡ get_or xs i d → take n ys ≡ in_wave wave (take i ws) (take i xs)
+    → take (n + 1) (set ys n x) ≡ in_wave wave (take (i + 1) ws) (take (i + 1) xs)
+wave-more ws xs ys wave i n x d lt within room here read found =
+    take_more_set ys n x room ∙ ap (λ l. l ++ x ∷ []) found
+    ∙ ap (λ y. in_wave wave (take i ws) (take i xs) ++ y ∷ []) read
+    ∙ ap (λ b. in_wave wave (take i ws) (take i xs) ++ cond b (get_or xs i d ∷ []) []) (sym (eq-eqb (slice_index ws i) wave here))
+    ∙ sym (in_wave-more ws xs wave i d lt within)
 
 -- it is of another
-pub places-pass : (ws ps : List ℕ) (wave i n : ℕ) → i < length ws → slice_index ws i ≢ wave → take n ps ≡ in_wave wave (take i ws) (range_with_len 0 i) → take n ps ≡ in_wave wave (take (i + 1) ws) (range_with_len 0 (i + 1))
-places-pass ws ps wave i n lt other found =
-    found ∙ sym (append-nil (in_wave wave (take i ws) (range_with_len 0 i)))
-    ∙ ap (λ b. in_wave wave (take i ws) (range_with_len 0 i) ++ cond b (i ∷ []) []) (sym (ne_eqb (slice_index ws i) wave other))
-    ∙ sym (in_wave-more ws wave i lt)
+pub wave-pass : {X : Type 0} (ws : List ℕ) (xs : List X) (wave i : ℕ) (found : List X) → i < length ws → i < length xs → slice_index ws i ≢ wave → found ≡ in_wave wave (take i ws) (take i xs)
+    → found ≡ in_wave wave (take (i + 1) ws) (take (i + 1) xs)
+wave-pass ws xs wave i found lt within other is =
+    let some = place_in xs i within in
+    let x = some.0 in
+    is ∙ sym (append-nil (in_wave wave (take i ws) (take i xs)))
+    ∙ ap (λ b. in_wave wave (take i ws) (take i xs) ++ cond b (get_or xs i x ∷ []) []) (sym (ne_eqb (slice_index ws i) wave other))
+    ∙ sym (in_wave-more ws xs wave i x lt within)
 
 outside-front : (ps : List ℕ) (q k : ℕ) → k ≤ length ps → ((a : ℕ) → a < k → slice_index ps a ≢ q) → IsOutside (take k ps) q
 outside-front ps q zero le apart = tt
@@ -146,3 +154,16 @@ outside-front (p ∷ ps) q (suc k) le apart = (apart 0 (omega arith), outside-fr
 -- of places that rise, each is outside those before it
 pub rising-outside : (ps : List ℕ) (k : ℕ) → AllPairs (λ p q. p < q) ps → k < length ps → IsOutside (take k ps) (slice_index ps k)
 rising-outside ps k rising lt = outside-front ps (slice_index ps k) k (omega arith) (λ a below e. let less : slice_index ps a < slice_index ps k = rising a k 0 below lt in absurd (omega arith))
+
+pub range-at : (n i d : ℕ) → i < n → get_or (range_with_len 0 n) i d ≡ i
+range-at n i d lt = from 0 n i lt ∙ (let zero : 0 + i ≡ i = omega arith in zero)
+  where
+    from : (a m k : ℕ) → k < m → get_or (range_with_len a m) k d ≡ a + k
+    from a zero k low = absurd (omega arith)
+    from a (suc m) zero low = omega arith
+    from a (suc m) (suc k) low = let moved : a + 1 + k ≡ a + suc k = omega arith in from (a + 1) m k (omega arith) ∙ moved
+
+-- the places that were found among all
+pub all-places : (ws : List ℕ) (wave n : ℕ) (found : List ℕ) → length ws ≡ n → found ≡ in_wave wave ws (take n (range_with_len 0 n)) → found ≡ places_of ws wave
+all-places ws wave n found long is =
+    is ∙ ap (in_wave wave ws) (take_all n (range_with_len 0 n) (let full = length-range 0 n in omega arith)) ∙ ap (λ k. in_wave wave ws (range_with_len 0 k)) (sym long)

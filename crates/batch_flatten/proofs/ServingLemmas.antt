@@ -24,7 +24,7 @@ use Rattle.batch_flatten.specs.Waves.{asked, count_of, in_order, waves_of}
 use Rattle.batch_flatten.specs.Places.{IsOutside, at_places, places_of_first}
 use Rattle.batch_flatten.specs.Batches.{IsAnswered, Runs, ServesInOrder, answered, is_answered, request_of}
 use Rattle.batch_flatten.specs.Serving.{AnswersIfSure, AnswersSure, AreAskedBy, RunsBack, Serving, WereBack, caller_of}
-use Rattle.batch_flatten.proofs.PlaceLemmas.{at_places-in_order, at_places-push, rising-outside, set_itself, slice_get-set_else, slice_get-set_here}
+use Rattle.batch_flatten.proofs.PlaceLemmas.{at_places-in_order, at_places-push, place_in, rising-outside, set_itself, slice_get-set_else, slice_get-set_here}
 
 outside-parts : (done more : List ℕ) (place : ℕ) → IsOutside (done ++ more) place → IsOutside done place × IsOutside more place
 outside-parts [] more place out = (tt, out)
@@ -101,11 +101,6 @@ serving_run room line rs done place old new os k call (Refused came) same s out 
       waiting = still_wait rs done place os (Refused came) s.waiting;
     }
 
-place_in : {X : Type 0} (xs : List X) (i : ℕ) → i < length xs → (x : X) × (slice_get xs i ≡ Some x)
-place_in [] i lt = absurd (omega arith)
-place_in (x ∷ xs) zero lt = (x, refl)
-place_in (x ∷ xs) (suc i) lt = place_in xs i (omega arith)
-
 slice_get-take : {X : Type 0} (xs : List X) (n i : ℕ) → i < n → slice_get (take n xs) i ≡ slice_get xs i
 slice_get-take xs zero i lt = absurd (omega arith)
 slice_get-take [] (suc n) i lt = refl
@@ -129,6 +124,11 @@ caller_here rs callers i r by lt there =
 -- what is read at a place stands there
 pub stands-here : (os : List Outcome) (place n : ℕ) (was : Outcome) → place < n → n ≡ length os → was ≡ get_or os place was → slice_get os place ≡ Some was
 stands-here os place n was lt long is = slice_get-get_or os place was (omega arith) ∙ ap (λ (o : Outcome). Some o) (sym is)
+
+-- what is read at the place of a position stands there
+pub stands-at : (os : List Outcome) (ps : List ℕ) (b place : ℕ) (o : Outcome) → All (λ p. p < length os) ps → b < length ps → place ≡ slice_index ps b → o ≡ get_or os place o → slice_get os (slice_index ps b) ≡ Some o
+stands-at os ps b place o within lt is read =
+    ap (slice_get os) (sym is) ∙ stands-here os place (length os) o (let low : slice_index ps b < length os = within b 0 lt in omega arith) refl read
 
 some_of : (a b : Outcome) → ◌≡◌ {A = Option Outcome} (Some a) (Some b) → a ≡ b
 some_of a b e = cc

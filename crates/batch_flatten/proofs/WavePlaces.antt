@@ -1,14 +1,21 @@
 -- Where the places of waves lie: each wave's within the batch (`places-within`), in rising order (`rising-found`), and outside those
 -- of the waves before (`places-outside`). Together they are no more than there are (`places-few`), and each place is one of them
 -- (`each-placed`).
-use Rattle.std.proofs.Common.{◌≡◌, ◌≢◌, ◌==◌, ℕ, zero, suc, ◌+◌, ◌<◌, ◌≤◌, max, Bool, true, false, cond, List, [], ◌∷◌, ◌++◌, length, refl, sym, ap, ◌∙◌, subst, arith, append_assoc, length-append, eq-eqb, ne_eqb, slice_index, take, All}
-use Rattle.std.specs.List.{AllByRecursion, AllPairs, flat_map, range_with_len}
+use Rattle.std.proofs.Common.{◌≡◌, Option, Some, ◌≢◌, ◌==◌, ℕ, zero, suc, ◌+◌, ◌<◌, ◌≤◌, max, Bool, true, false, cond, List, [], ◌∷◌, ◌++◌, length, refl, sym, ap, ◌∙◌, subst, arith, append_assoc, length-append, eq-eqb, ne_eqb, get_or, slice_get, slice_index, take, All}
+use Rattle.std.specs.List.{AllByRecursion, cons_option, AllPairs, flat_map, range_with_len}
 use Rattle.std.proofs.lemmas.Bool.{eqb-true}
+use Rattle.std.proofs.lemmas.List.{get_or-take, length-take-le}
+use Rattle.std.proofs.lemmas.Option.{get_or_from_slice_get}
 use mathlib.Core.Logic.{dite}
 use native.Mathlib.Decide.{ℕ_discrete}
 use Rattle.batch_flatten.specs.Waves.{count_of, in_wave}
-use Rattle.batch_flatten.specs.Places.{IsOutside, places_of, places_of_first}
-use Rattle.batch_flatten.proofs.PlaceLemmas.{places-next}
+use Rattle.cvl_text.specs.declared.word.Word.{Word}
+use Rattle.cvl_text.specs.declared.word.Word.TheVariants.{SetInts}
+use Rattle.call_history.specs.declared.request.Outcome.{Outcome}
+use Rattle.batch_flatten.specs.Joining.{AreNoted, AreWords}
+use Rattle.batch_flatten.specs.Serving.{AreApart, DoNotClash}
+use Rattle.batch_flatten.specs.Places.{at_places, IsOutside, places_of, places_of_first}
+use Rattle.batch_flatten.proofs.PlaceLemmas.{at_places-of, place_in, places-next}
 
 all-weaken : {X : Type 0} (P Q : X → Type 0) (xs : List X) → ((x : X) → P x → Q x) → AllByRecursion P xs → AllByRecursion Q xs
 all-weaken P Q [] step all = tt
@@ -55,6 +62,12 @@ pub places-within : (ws : List ℕ) (wave n : ℕ) → length ws ≤ n → All (
 places-within ws wave n le =
     all-each (λ p. p < n) (places_of ws wave)
     (all-weaken (λ p. (0 ≤ p) × (p < 0 + length ws) × (slice_index ws p ≡ wave)) (λ p. p < n) (places_of ws wave) (λ p lies. let high = lies.1 in omega arith) (lies-in ws wave))
+
+-- each place of a wave is of it
+places-in : (ws : List ℕ) (wave : ℕ) → All (λ p. slice_index ws p ≡ wave) (places_of ws wave)
+places-in ws wave =
+    all-each (λ p. slice_index ws p ≡ wave) (places_of ws wave)
+    (all-weaken (λ p. (0 ≤ p) × (p < 0 + length ws) × (slice_index ws p ≡ wave)) (λ p. slice_index ws p ≡ wave) (places_of ws wave) (λ p lies. lies.2) (lies-in ws wave))
 
 IsRising : List ℕ → Type 0
 IsRising [] = Unit {0}
@@ -201,3 +214,43 @@ count_of-push (v ∷ ws) w = omega (arith, count_of-push ws w)
 -- the places of a wave of the first so many
 pub same-places : (waves ps : List ℕ) (wave n m : ℕ) → ps ≡ places_of (take n waves) wave → n ≡ m → ps ≡ places_of (take m waves) wave
 same-places waves ps wave n m are is = are ∙ ap (λ k. places_of (take k waves) wave) is
+
+at_places-get : {X : Type 0} (xs : List X) (ps : List ℕ) (b : ℕ) (d : X) → All (λ p. p < length xs) ps → b < length ps → get_or (at_places xs ps) b d ≡ get_or xs (slice_index ps b) d
+at_places-get xs [] b d within lt = absurd (omega arith)
+at_places-get {X = X} xs (p ∷ ps) b d within lt =
+    let here = place_in xs p (within 0 0 (omega arith)) in
+    ap (λ (o : Option X). get_or (cons_option o (at_places xs ps)) b d) here.1 ∙ by b here.0 here.1 lt (at_places-get xs ps)
+  where
+    by : (i : ℕ) (x : X) → slice_get xs p ≡ Some x → i < suc (length ps) → ((j : ℕ) (e : X) → All (λ q. q < length xs) ps → j < length ps → get_or (at_places xs ps) j e ≡ get_or xs (slice_index ps j) e)
+        → get_or (x ∷ at_places xs ps) i d ≡ get_or xs (slice_index (p ∷ ps) i) d
+    by zero x there low later = sym (get_or_from_slice_get xs p x d there)
+    by (suc i) x there low later = later i d (λ k e lk. within (suc k) e (omega arith)) (omega arith)
+
+-- the words that were found for a wave are those of its calls
+pub found-words : (words found : List Word) (outcomes : List Outcome) (ws ps : List ℕ) (wave n : ℕ) → AreNoted words outcomes → length ws ≡ n → n ≤ length words → ps ≡ places_of ws wave → found ≡ in_wave wave ws (take n words) → AreWords found outcomes ps
+found-words words found outcomes ws ps wave n noted long few are is b c lt there =
+    let first : List Word = take n words in
+    let same : length first ≡ n = length-take-le n words few in
+    let within : All (λ p. p < n) ps = subst (All (λ p. p < n)) (sym are) (places-within ws wave n (omega arith)) in
+    let low : slice_index ps b < n = within b 0 lt in
+    let stands : found ≡ at_places first ps = is ∙ sym (at_places-of first ws wave (long ∙ sym same)) ∙ ap (at_places first) (sym are) in
+    ap (λ l. get_or l b SetInts) stands ∙ at_places-get first ps b SetInts (subst (λ (k : ℕ). All (λ p. p < k) ps) (sym same) within) lt
+    ∙ get_or-take n words (slice_index ps b) SetInts low ∙ noted (slice_index ps b) c there
+
+-- calls of a wave keep apart
+pub wave-apart : (waves : List ℕ) (outcomes : List Outcome) (ps : List ℕ) (wave n : ℕ) → AreApart waves outcomes → n ≤ length waves → ps ≡ places_of (take n waves) wave → AllPairs (DoNotClash outcomes) ps
+wave-apart waves outcomes ps wave n apart few are = subst (AllPairs (DoNotClash outcomes)) (sym are) of_wave
+  where
+    ws : List ℕ
+    ws = take n waves
+
+    at_wave : (k : ℕ) (d : ℕ) → k < length (places_of ws wave) → slice_index waves (get_or (places_of ws wave) k d) ≡ wave
+    at_wave k d lt =
+        let low : get_or (places_of ws wave) k d < n = places-within ws wave n (let same = length-take-le n waves few in omega arith) k d lt in
+        sym (get_or-take n waves (get_or (places_of ws wave) k d) 0 low) ∙ places-in ws wave k d lt
+
+    of_wave : AllPairs (DoNotClash outcomes) (places_of ws wave)
+    of_wave i j d lt within = apart (get_or (places_of ws wave) i d) (get_or (places_of ws wave) j d) (places-rise ws wave i j d lt within) (at_wave i d (omega arith) ∙ sym (at_wave j d within))
+
+pub same-words : (waves : List ℕ) (words found : List Word) (wave n m : ℕ) → found ≡ in_wave wave (take n waves) (take n words) → n ≡ m → found ≡ in_wave wave (take m waves) (take m words)
+same-words waves words found wave n m are is = are ∙ ap (λ k. in_wave wave (take k waves) (take k words)) is

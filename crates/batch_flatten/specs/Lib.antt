@@ -4,4 +4,5 @@ pub mod Plans
 pub mod Places
 pub mod Batches
 pub mod Serving
+pub mod Joining
 pub mod Counts

@@ -11,7 +11,6 @@ use Rattle.call_history.specs.declared.request.Request.{Request}
 use Rattle.call_history.specs.declared.request.Outcome.{Outcome}
 use Rattle.call_history.specs.declared.request.Outcome.TheVariants.{Answered, Refused}
 use Rattle.call_history.specs.Books.{BookState}
-use Rattle.call_history.specs.Callers.{caller_limit}
 use Rattle.call_history.specs.Fits.{request, returned, Fits, IsAskedAt}
 use Rattle.batch_flatten.specs.Waves.{clashes}
 use Rattle.batch_flatten.specs.Places.{IsOutside, at_places}
@@ -38,10 +37,6 @@ TurnsMemory old new (Answered place reply) = new ≡ old
 
 abbrev pub caller_of : Request → ℕ
 caller_of r = r.caller
-
--- numbers that callers may have
-abbrev pub AreCallers : List ℕ → Type 0
-AreCallers callers = (i : ℕ) → slice_index callers i < caller_limit
 
 -- requests of distinct callers, which are the first of these
 pub record AreAskedBy (requests : List Request) (callers : List ℕ) : Type 0 where

@@ -5,6 +5,7 @@
 //! Computing, 1990).
 #![tactic(auto)]
 
+mod joining;
 pub mod laws;
 mod plan;
 mod planning;

@@ -4,23 +4,67 @@ ghost use Rattle.std.specs.Prelude.{◌≡◌, ◌<◌, ◌≤◌, [], length, m
 ghost use Rattle.std.specs.List.{AllByRecursion};
 ghost use Rattle.call_history.specs.Callers.{caller_limit};
 ghost use Rattle.call_history.specs.Fits.{returned};
-ghost use Rattle.batch_flatten.specs.Serving.{AreCallers, caller_of};
+ghost use Rattle.batch_flatten.specs.Waves.{asked, count_of, waves_of};
+ghost use Rattle.batch_flatten.specs.Places.{AreBelow};
+ghost use Rattle.batch_flatten.specs.Counts.{wave_count, word_asked};
+ghost use Rattle.batch_flatten.specs.Joining.{AreNoted};
+ghost use Rattle.batch_flatten.specs.Serving.{AreApart, caller_of};
 
 use crate::plan::BATCH_LIMIT;
+use crate::planning::waves;
 use call_history::{Outcome, Request};
+use cvl_text::{Word, call_word};
+
+/// What is noted of the requests of a batch, by their places.
+#[derive(Drop)]
+pub(crate) struct Roll {
+    /// The number of the caller.
+    pub callers: [u8; BATCH_LIMIT],
+    /// The word of the call.
+    pub words: [Word; BATCH_LIMIT],
+    /// The wave.
+    pub waves: [u8; BATCH_LIMIT],
+    /// How many waves there are.
+    pub count: u8,
+}
 
 /// The callers of the requests, and 0 past the last.
-pub(crate) fn callers_of(requests: &[Request]) -> [u8; BATCH_LIMIT]
+fn callers_of(requests: &[Request]) -> [u8; BATCH_LIMIT]
     requires few { length requests.now ≤ BATCH_LIMIT }
     requires lawful { AllByRecursion (λ r. r.caller < caller_limit) requests.now }
     ensures callers { take (length requests.now) result ≡ map caller_of requests.now }
-    ensures lawful { AreCallers result }
+    ensures lawful { AreBelow caller_limit result }
 {
     let mut callers = [0; BATCH_LIMIT];
     for i in 0..requests.len() {
         callers[i] = requests[i].caller as u8;
     }
     callers
+}
+
+/// The words of the calls of the requests, and one that runs no kernel past the last.
+fn words_of(requests: &[Request]) -> [Word; BATCH_LIMIT]
+    requires { length requests.now ≤ BATCH_LIMIT }
+    ensures { take (length requests.now) result ≡ map word_asked requests.now }
+{
+    let mut words = [Word::SetInts; BATCH_LIMIT];
+    for i in 0..requests.len() {
+        words[i] = call_word(&requests[i].call);
+    }
+    words
+}
+
+/// How many waves the first requests, so many, have.
+fn wave_count(waves: &[u8; BATCH_LIMIT], count: usize) -> u8
+    requires count { count ≤ BATCH_LIMIT }
+    requires below { AreBelow BATCH_LIMIT waves.now }
+    ensures { result ≡ count_of (take count waves.now) }
+{
+    let mut most: u8 = 0;
+    for i in 0..count {
+        most = most.max(waves[i] + 1);
+    }
+    most
 }
 
 /// Hands each call back: it moves into its outcome, in the order of the requests.
@@ -36,5 +80,36 @@ pub(crate) fn hand_back(requests: &mut Vec<Request>, outcomes: &mut Vec<Outcome>
     while let Some(request) = requests.pop() {
         let Request { caller: _, call } = request;
         outcomes.push_reserved(Outcome::Refused(call));
+    }
+}
+
+/// Notes what is asked of the requests, and hands their calls back.
+pub(crate) fn open(requests: &mut Vec<Request>, outcomes: &mut Vec<Outcome>) -> Roll
+    requires few { vec_len requests.old ≤ BATCH_LIMIT }
+    requires lawful { AllByRecursion (λ r. r.caller < caller_limit) requests.old.items }
+    requires empty { outcomes.old.items ≡ [] }
+    requires spaces { vec_len requests.old ≤ vec_capacity outcomes.old }
+    ensures callers { take (length requests.old.items) result.callers ≡ map caller_of requests.old.items }
+    ensures lawful { AreBelow caller_limit result.callers }
+    ensures words { take (length requests.old.items) result.words ≡ map word_asked requests.old.items }
+    ensures waves { take (length requests.old.items) result.waves ≡ waves_of (map asked requests.old.items) }
+    ensures count { result.count ≡ wave_count requests.old.items }
+    ensures outcomes { outcomes.new.items ≡ map returned requests.old.items }
+    ensures noted { AreNoted result.words outcomes.new.items }
+    ensures apart { AreApart result.waves outcomes.new.items }
+    ensures requests { requests.new.items ≡ [] }
+    ensures request_spaces { vec_capacity requests.new ≡ vec_capacity requests.old }
+    ensures outcome_spaces { vec_capacity outcomes.new ≡ vec_capacity outcomes.old }
+{
+    let callers = callers_of(requests);
+    let words = words_of(requests);
+    let planned = waves(requests);
+    let count = wave_count(&planned, requests.len());
+    hand_back(requests, outcomes);
+    Roll {
+        callers,
+        words,
+        waves: planned,
+        count,
     }
 }

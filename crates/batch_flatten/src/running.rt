@@ -1,76 +1,77 @@
 //! A whole batch.
 
-ghost use Rattle.std.specs.Prelude.{◌≡◌, ◌≢◌, ◌⊎◌, ◌+◌, ◌<◌, ◌≤◌, [], ℕ, List, map, take, slice_index, vec_len, vec_capacity};
+ghost use Rattle.std.specs.Prelude.{◌≡◌, ◌≢◌, ◌⊎◌, ◌+◌, ◌<◌, ◌≤◌, [], ℕ, List, length, map, take, slice_index, vec_len, vec_capacity};
 ghost use Rattle.std.specs.List.{AllByRecursion, AllPairs};
 ghost use Rattle.call_history.specs.declared.entry.Entry.{Entry};
 ghost use Rattle.call_history.specs.declared.request.Request.{Request};
 ghost use Rattle.call_history.specs.Callers.{caller_limit};
 ghost use Rattle.call_history.specs.Fits.{returned};
 ghost use Rattle.batch_flatten.specs.Waves.{count_of};
-ghost use Rattle.batch_flatten.specs.Places.{places_of_first};
+ghost use Rattle.batch_flatten.specs.Places.{AreBelow, places_of_first};
 ghost use Rattle.batch_flatten.specs.Batches.{AnswersAllSure, ServesInOrder};
-ghost use Rattle.batch_flatten.specs.Counts.{RisesBy, wave_count};
-ghost use Rattle.batch_flatten.specs.Serving.{AnswersSure, AreAskedBy, AreCallers, Serving, WereBack};
+ghost use Rattle.batch_flatten.specs.Counts.{RisesBy, kernel_bound, kernels_below, wave_count};
+ghost use Rattle.batch_flatten.specs.Joining.{AreNoted};
+ghost use Rattle.batch_flatten.specs.Serving.{AnswersSure, AreApart, AreAskedBy, Serving, WereBack};
 
 use crate::plan::BATCH_LIMIT;
-use crate::planning::waves;
 use crate::ran::Ran;
-use crate::roll::{callers_of, hand_back};
-use crate::wave::{find_places, serve_wave};
+use crate::roll::{Roll, open};
+use crate::wave::{find_wave, serve_wave};
 use call_history::{Book, Outcome, Request};
+use cvl_text::Word;
 use scan_kernels::{Execution, Meter};
 use std::alloc::Global;
 
-/// How many waves the first requests, so many, have.
-fn wave_count(waves: &[u8; BATCH_LIMIT], count: usize) -> u8
-    requires count { count ≤ BATCH_LIMIT }
-    requires below { (place : ℕ) → slice_index waves.now place < BATCH_LIMIT }
-    ensures { result ≡ count_of (take count waves.now) }
-{
-    let mut most: u8 = 0;
-    for i in 0..count {
-        most = most.max(waves[i] + 1);
-    }
-    most
-}
-
-/// Serves so many waves, one after the other.
+/// Serves the waves, one after the other. How many calls ran by themselves though they were to be joined.
 fn serve_waves(
     execution: &impl Execution,
     alloc: Global,
     meter: &mut Meter,
     book: &mut Book,
-    callers: &[u8; BATCH_LIMIT],
-    waves: &[u8; BATCH_LIMIT],
-    count: u8,
+    roll: &Roll,
     outcomes: &mut Vec<Outcome>,
-)
+) -> u64
     requires few { vec_len outcomes.old ≤ BATCH_LIMIT }
-    requires lawful { AreCallers callers.now }
+    requires lawful { AreBelow caller_limit roll.now.callers }
     requires space { vec_len outcomes.old ≤ book.old.spaces }
-    ensures serves { (line : List Entry) (rs : List Request) → AreAskedBy rs callers.now
+    requires words { AreNoted roll.now.words outcomes.old.items }
+    requires apart { AreApart roll.now.waves outcomes.old.items }
+    ensures serves { (line : List Entry) (rs : List Request) → AreAskedBy rs roll.now.callers
         → Serving book.old.room line rs [] book.old.history outcomes.old.items
-        → Serving book.old.room line rs (places_of_first (take (vec_len outcomes.old) waves.now) count) book.new.history outcomes.new.items }
-    ensures sure { AnswersSure outcomes.new.items (places_of_first (take (vec_len outcomes.old) waves.now) count) }
+        → Serving book.old.room line rs (places_of_first (take (vec_len outcomes.old) roll.now.waves) roll.now.count) book.new.history outcomes.new.items }
+    ensures sure { AnswersSure outcomes.new.items (places_of_first (take (vec_len outcomes.old) roll.now.waves) roll.now.count) }
+    ensures counted { RisesBy (kernels_below (take (vec_len outcomes.old) roll.now.waves) (take (vec_len outcomes.old) roll.now.words) roll.now.count + result)
+        meter.old meter.new }
+    ensures few_singles { result ≤ vec_len outcomes.old }
     ensures back { WereBack outcomes.old.items outcomes.new.items }
     ensures room { book.new.room ≡ book.old.room }
-    ensures counted { RisesBy (vec_len outcomes.old) meter.old meter.new }
     ensures count { vec_len outcomes.new ≡ vec_len outcomes.old }
     ensures spaces { vec_capacity outcomes.new ≡ vec_capacity outcomes.old }
 {
-    let mut places = [0; BATCH_LIMIT];
-    for wave in 0..count {
-        let found = find_places(waves, outcomes.len(), wave, &mut places);
-        serve_wave(
+    let mut found = [0; BATCH_LIMIT];
+    let mut found_words = [Word::SetInts; BATCH_LIMIT];
+    let mut singles: u64 = 0;
+    for wave in 0..roll.count {
+        let many = find_wave(
+            &roll.waves,
+            &roll.words,
+            outcomes.len(),
+            wave,
+            &mut found,
+            &mut found_words,
+        );
+        singles += serve_wave(
             execution,
             alloc,
             meter,
             book,
-            callers,
-            &places[..found],
+            &roll.callers,
+            &found[..many],
+            &found_words[..many],
             outcomes,
         );
     }
+    singles
 }
 
 /// Serves the requests of a batch in the order of their waves. What became of them stands in their own order. Where the history
@@ -93,26 +94,23 @@ pub fn run_batch(
     ensures waves { (result.waves ≡ wave_count requests.old.items)
         ⊎ ((result ≡ Ran.NOTHING) × (book.new.history ≡ book.old.history) × (outcomes.new.items ≡ map returned requests.old.items)) }
     ensures sure { 0 < result.waves → AnswersAllSure requests.old.items outcomes.new.items }
+    ensures bound { result.kernels ≤ kernel_bound requests.old.items + result.singles }
+    ensures few_singles { result.singles ≤ length requests.old.items }
     ensures kernels { meter.new ≡ record meter.old { runs = meter.old.runs + result.kernels } }
     ensures requests { requests.new.items ≡ [] }
     ensures request_spaces { vec_capacity requests.new ≡ vec_capacity requests.old }
     ensures outcome_spaces { vec_capacity outcomes.new ≡ vec_capacity outcomes.old }
 {
     let count = requests.len();
-    let callers = callers_of(requests);
-    let planned = waves(requests);
-    hand_back(requests, outcomes);
+    let roll = open(requests, outcomes);
     let Ok(()) = book.reserve(count) else {
         return Ran::NOTHING;
     };
     let before = meter.runs();
-    let many = wave_count(&planned, count);
-    serve_waves(
-        execution, alloc, meter, book, &callers, &planned, many, outcomes,
-    );
+    let singles = serve_waves(execution, alloc, meter, book, &roll, outcomes);
     Ran {
-        waves: u64::from(many),
+        waves: u64::from(roll.count),
         kernels: meter.runs() - before,
-        singles: 0,
+        singles,
     }
 }

@@ -1,19 +1,63 @@
 //! The turn of one call.
 
-ghost use Rattle.std.specs.Prelude.{◌≡◌, ◌+◌, ◌<◌, ◌≤◌};
+ghost use Rattle.std.specs.Prelude.{◌≡◌, ◌≢◌, ◌+◌, ◌<◌, ◌≤◌, Bool, Result, ℕ, Some, slice_get};
+ghost use Rattle.cvl_text.specs.declared.fault.Fault.{Fault};
 ghost use Rattle.cvl_text.specs.Tasks.{task_of};
-ghost use Rattle.cvl_calls.specs.Runs.{TakesNoMemory};
+ghost use Rattle.cvl_calls.specs.Outcomes.{Effect};
+ghost use Rattle.cvl_calls.specs.Runs.{TakesNoMemory, runs_kernel};
+ghost use Rattle.cvl_calls.specs.Steps.{work_on};
 ghost use Rattle.call_history.specs.Books.{memory_of};
 ghost use Rattle.call_history.specs.Callers.{caller_limit};
-ghost use Rattle.batch_flatten.specs.Batches.{Runs, StepsOrStays, IsAnswered};
-ghost use Rattle.batch_flatten.specs.Counts.{RisesBy};
-ghost use Rattle.batch_flatten.specs.Serving.{RunsBack, TurnsMemory, AnswersIfSure};
+ghost use Rattle.call_history.specs.Works.{IsWork};
+ghost use Rattle.batch_flatten.specs.Batches.{IsAnswered, Runs, StepsOrStays};
+ghost use Rattle.batch_flatten.specs.Counts.{CountsTurn, RisesBy, kernels_of};
+ghost use Rattle.batch_flatten.specs.Joining.{HasWork, IsPrepared, IsReadyWork, slot_work};
+ghost use Rattle.batch_flatten.specs.Serving.{AnswersIfSure, RunsBack, TurnsMemory};
 
-use call_history::{Book, Outcome};
-use cvl_text::{Call, Reply};
+use call_history::{Book, Outcome, Work};
+use cvl_text::{Call, Fault, Reply};
 use scan_kernels::{Execution, Meter};
 use std::alloc::Global;
 use std::mem;
+
+/// How a call takes its turn.
+#[derive(Clone, Copy, Debug)]
+pub(crate) enum Turn {
+    /// By itself, unless it is joined with others before.
+    Open,
+    /// By itself, since memory was wanted where it was to be joined with others.
+    Single,
+    /// With the fault that was found in it.
+    Faulty(Fault),
+    /// With the work that was made of it together with others.
+    Joined,
+}
+
+/// The work at a position, taken away. Past the last there is none.
+fn take_work(works: &mut Vec<Option<Work>>, position: usize) -> Option<Work>
+    ensures work { slot_work (slice_get works.old.items position) ≡ result }
+    ensures others { (b : ℕ) → b ≢ position → slice_get works.new.items b ≡ slice_get works.old.items b }
+{
+    if position < works.len() {
+        mem::replace(&mut works[position], None)
+    } else {
+        None
+    }
+}
+
+/// The work with which the call at a position takes its turn, if it was done before.
+pub(crate) fn work_for(turn: Turn, works: &mut Vec<Option<Work>>, position: usize) -> Option<Work>
+    ensures work { (kernel : Bool) (said : Result Effect Fault) → IsPrepared kernel said (Some turn) (slice_get works.old.items position)
+        → HasWork kernel said turn result }
+    ensures others { (b : ℕ) → b ≢ position → slice_get works.new.items b ≡ slice_get works.old.items b }
+{
+    match turn {
+        Turn::Open => None,
+        Turn::Single => None,
+        Turn::Faulty(fault) => Some(Work::Say(Reply::Fault(fault))),
+        Turn::Joined => take_work(works, position),
+    }
+}
 
 /// Runs a call behind the history, and says what became of it.
 fn run(
@@ -30,7 +74,7 @@ fn run(
     ensures memory { StepsOrStays (memory_of book.old) (memory_of book.new) (task_of call) }
     ensures sure { TakesNoMemory (task_of call).word → IsAnswered result }
     ensures spaces { book.old.spaces ≤ book.new.spaces + 1 }
-    ensures counted { RisesBy 1 meter.old meter.new }
+    ensures counted { RisesBy (kernels_of (runs_kernel (task_of call).word)) meter.old meter.new }
 {
     match book.run_metered(execution, alloc, meter, caller, call) {
         Ok((place, reply)) => Outcome::Answered { place, reply },
@@ -38,7 +82,21 @@ fn run(
     }
 }
 
-/// Runs a call that is back. An answer stays.
+/// Runs a call whose work was done before.
+fn run_ready(book: &mut Book, caller: u64, call: Call, work: Work) -> Outcome
+    requires caller { caller < caller_limit }
+    requires work { IsWork work (work_on (memory_of book.old) (task_of call)) }
+    ensures ran { Runs book.old book.new caller call result }
+    ensures memory { StepsOrStays (memory_of book.old) (memory_of book.new) (task_of call) }
+    ensures spaces { book.old.spaces ≤ book.new.spaces + 1 }
+{
+    match book.run_with(caller, call, work) {
+        Ok((place, reply)) => Outcome::Answered { place, reply },
+        Err((call, _)) => Outcome::Refused(call),
+    }
+}
+
+/// Runs a call that is back, with its work where that was done before. An answer stays.
 pub(crate) fn run_back(
     execution: &impl Execution,
     alloc: Global,
@@ -46,14 +104,16 @@ pub(crate) fn run_back(
     book: &mut Book,
     caller: u64,
     outcome: &mut Outcome,
+    work: Option<Work>,
 )
     requires caller { caller < caller_limit }
     requires space { 0 < book.old.spaces }
+    requires ready { IsReadyWork (memory_of book.old) (Some outcome.old) work }
     ensures ran { RunsBack book.old book.new caller outcome.old outcome.new }
     ensures memory { TurnsMemory (memory_of book.old) (memory_of book.new) outcome.old }
     ensures sure { AnswersIfSure outcome.old outcome.new }
     ensures spaces { book.old.spaces ≤ book.new.spaces + 1 }
-    ensures counted { RisesBy 1 meter.old meter.new }
+    ensures counted { CountsTurn (Some outcome.old) work meter.old meter.new }
 {
     let nothing = Outcome::Answered {
         place: 0,
@@ -61,7 +121,10 @@ pub(crate) fn run_back(
     };
     let was = mem::replace(outcome, nothing);
     *outcome = match was {
-        Outcome::Refused(call) => run(execution, alloc, meter, book, caller, call),
+        Outcome::Refused(call) => match work {
+            Some(work) => run_ready(book, caller, call, work),
+            None => run(execution, alloc, meter, book, caller, call),
+        },
         Outcome::Answered { place, reply } => Outcome::Answered { place, reply },
     };
 }

@@ -1,42 +1,54 @@
 //! One wave: its calls take their turns in the order of the requests.
 
-ghost use Rattle.std.specs.Prelude.{◌≡◌, ◌+◌, ◌<◌, ◌≤◌, ◌∷◌, ◌++◌, [], ℕ, List, All, length, take, vec_len, vec_capacity};
+ghost use Rattle.std.specs.Prelude.{◌≡◌, ◌≢◌, ◌+◌, ◌<◌, ◌≤◌, ◌∷◌, ◌++◌, [], ℕ, List, All, Some, length, slice_get, slice_index, take, vec_len, vec_capacity};
 ghost use Rattle.std.specs.List.{AllPairs};
 ghost use Rattle.call_history.specs.declared.entry.Entry.{Entry};
 ghost use Rattle.call_history.specs.declared.request.Request.{Request};
+ghost use Rattle.call_history.specs.declared.request.Outcome.{Outcome};
 ghost use Rattle.call_history.specs.Books.{memory_of};
-ghost use Rattle.batch_flatten.specs.Places.{IsOutside, places_of};
-ghost use Rattle.batch_flatten.specs.Counts.{RisesBy};
-ghost use Rattle.batch_flatten.specs.Serving.{AnswersSure, AreAskedBy, AreCallers, Serving, WereBack};
+ghost use Rattle.call_history.specs.Callers.{caller_limit};
+ghost use Rattle.scan_kernels.specs.Metering.{Metered};
+ghost use Rattle.batch_flatten.specs.Waves.{in_wave};
+ghost use Rattle.batch_flatten.specs.Places.{AreBelow, IsOutside, places_of};
+ghost use Rattle.batch_flatten.specs.Counts.{CountsTurn, RisesBy, different_kernels, single_of};
+ghost use Rattle.batch_flatten.specs.Joining.{AreOpenTogether, ArePrepared, AreWords, IsReadyWork};
+ghost use Rattle.batch_flatten.specs.Serving.{AnswersSure, AreAskedBy, DoNotClash, Serving, TurnsMemory, WereBack};
 
+use crate::joining::join;
 use crate::plan::BATCH_LIMIT;
-use crate::turn::run_back;
-use call_history::{Book, Outcome};
+use crate::turn::{Turn, run_back, work_for};
+use call_history::{Book, Outcome, Work};
+use cvl_text::Word;
 use scan_kernels::{Execution, Meter};
 use std::alloc::Global;
 
-/// The places of the first requests, so many, that are in the wave: how many they are. They are the first of `places`.
-pub(crate) fn find_places(
+/// The requests of a wave among the first, so many: how many they are. Their places come first in `found`, their words in
+/// `found_words`.
+pub(crate) fn find_wave(
     waves: &[u8; BATCH_LIMIT],
+    words: &[Word; BATCH_LIMIT],
     count: usize,
     wave: u8,
-    places: &mut [u8; BATCH_LIMIT],
+    found: &mut [u8; BATCH_LIMIT],
+    found_words: &mut [Word; BATCH_LIMIT],
 ) -> usize
     requires { count ≤ BATCH_LIMIT }
     ensures few { result ≤ count }
-    ensures places { take result places.new ≡ places_of (take count waves.now) wave }
+    ensures places { take result found.new ≡ places_of (take count waves.now) wave }
+    ensures words { take result found_words.new ≡ in_wave wave (take count waves.now) (take count words.now) }
 {
-    let mut found = 0;
+    let mut many = 0;
     for i in 0..count {
         if waves[i] == wave {
-            places[found] = i as u8;
-            found += 1;
+            found[many] = i as u8;
+            found_words[many] = words[i];
+            many += 1;
         }
     }
-    found
+    many
 }
 
-/// The turn of the call at this place.
+/// The turn of the call at this place, with its work where that was done before.
 fn serve_place(
     execution: &impl Execution,
     alloc: Global,
@@ -44,28 +56,113 @@ fn serve_place(
     book: &mut Book,
     callers: &[u8; BATCH_LIMIT],
     place: usize,
+    work: Option<Work>,
     outcomes: &mut Vec<Outcome>,
 )
     requires few { vec_len outcomes.old ≤ BATCH_LIMIT }
-    requires lawful { AreCallers callers.now }
+    requires lawful { AreBelow caller_limit callers.now }
     requires place { place < vec_len outcomes.old }
     requires space { 0 < book.old.spaces }
+    requires ready { IsReadyWork (memory_of book.old) (slice_get outcomes.old.items place) work }
     ensures serves { (line : List Entry) (rs : List Request) (done : List ℕ) → AreAskedBy rs callers.now → IsOutside done place
         → Serving book.old.room line rs done book.old.history outcomes.old.items
         → Serving book.old.room line rs (done ++ place ∷ []) book.new.history outcomes.new.items }
     ensures sure { (done : List ℕ) → AnswersSure outcomes.old.items done → AnswersSure outcomes.new.items (done ++ place ∷ []) }
+    ensures memory { (was : Outcome) → slice_get outcomes.old.items place ≡ Some was
+        → TurnsMemory (memory_of book.old) (memory_of book.new) was }
+    ensures others { (p : ℕ) → p ≢ place → slice_get outcomes.new.items p ≡ slice_get outcomes.old.items p }
     ensures back { WereBack outcomes.old.items outcomes.new.items }
     ensures room { book.new.room ≡ book.old.room }
     ensures spaces_left { book.old.spaces ≤ book.new.spaces + 1 }
-    ensures counted { RisesBy 1 meter.old meter.new }
+    ensures counted { CountsTurn (slice_get outcomes.old.items place) work meter.old meter.new }
     ensures count { vec_len outcomes.new ≡ vec_len outcomes.old }
     ensures spaces { vec_capacity outcomes.new ≡ vec_capacity outcomes.old }
 {
     let caller = u64::from(callers[place]);
-    run_back(execution, alloc, meter, book, caller, &mut outcomes[place]);
+    let outcome = &mut outcomes[place];
+    run_back(execution, alloc, meter, book, caller, outcome, work);
 }
 
-/// Serves one wave: the calls at its places, one after the other.
+/// Whether a call runs by itself though it was to be joined: 1 or 0.
+fn single(turn: Turn) -> u64
+    ensures { result ≡ single_of turn }
+{
+    match turn {
+        Turn::Open => 0,
+        Turn::Single => 1,
+        Turn::Faulty(_) => 0,
+        Turn::Joined => 0,
+    }
+}
+
+/// The turn of the call at a position of the wave, before which it may be joined with later ones. Whether it ran by itself
+/// though it was to be joined: 1 or 0.
+fn serve_next(
+    execution: &impl Execution,
+    alloc: Global,
+    meter: &mut Meter,
+    book: &mut Book,
+    callers: &[u8; BATCH_LIMIT],
+    places: &[u8],
+    words: &[Word],
+    position: usize,
+    turns: &mut [Turn; BATCH_LIMIT],
+    works: &mut Vec<Option<Work>>,
+    outcomes: &mut Vec<Outcome>,
+) -> u64
+    requires few { vec_len outcomes.old ≤ BATCH_LIMIT }
+    requires lawful { AreBelow caller_limit callers.now }
+    requires few_places { length places.now ≤ BATCH_LIMIT }
+    requires paired { length words.now ≡ length places.now }
+    requires within { All (λ p. p < vec_len outcomes.old) places.now }
+    requires rising { AllPairs (λ p q. p < q) places.now }
+    requires position { position < length places.now }
+    requires space { 0 < book.old.spaces }
+    requires words { AreWords words.now outcomes.old.items places.now }
+    requires apart { AllPairs (DoNotClash outcomes.old.items) places.now }
+    requires prepared { ArePrepared (memory_of book.old) outcomes.old.items places.now words.now turns.old works.old.items position }
+    requires together { AreOpenTogether words.now turns.old position }
+    ensures serves { (line : List Entry) (rs : List Request) (done : List ℕ) → AreAskedBy rs callers.now
+        → IsOutside done (slice_index places.now position)
+        → Serving book.old.room line rs done book.old.history outcomes.old.items
+        → Serving book.old.room line rs (done ++ slice_index places.now position ∷ []) book.new.history outcomes.new.items }
+    ensures sure { (done : List ℕ) → AnswersSure outcomes.old.items done
+        → AnswersSure outcomes.new.items (done ++ slice_index places.now position ∷ []) }
+    ensures prepared { ArePrepared (memory_of book.new) outcomes.new.items places.now words.now turns.new works.new.items (position + 1) }
+    ensures together { AreOpenTogether words.now turns.new (position + 1) }
+    ensures counted { (start : Metered) (singles : ℕ)
+        → RisesBy (different_kernels (take position words.now) + singles) start meter.old
+        → RisesBy (different_kernels (take (position + 1) words.now) + (singles + result)) start meter.new }
+    ensures one { result ≤ 1 }
+    ensures back { WereBack outcomes.old.items outcomes.new.items }
+    ensures room { book.new.room ≡ book.old.room }
+    ensures spaces_left { book.old.spaces ≤ book.new.spaces + 1 }
+    ensures count { vec_len outcomes.new ≡ vec_len outcomes.old }
+    ensures spaces { vec_capacity outcomes.new ≡ vec_capacity outcomes.old }
+{
+    join(
+        execution,
+        alloc,
+        meter,
+        book.memory(),
+        places,
+        words,
+        outcomes,
+        position,
+        turns,
+        works,
+    );
+    let turn = turns[position];
+    let work = work_for(turn, works, position);
+    let place = usize::from(places[position]);
+    serve_place(
+        execution, alloc, meter, book, callers, place, work, outcomes,
+    );
+    single(turn)
+}
+
+/// Serves one wave: the calls at its places, one after the other. How many of them ran by themselves though they were to be
+/// joined.
 pub(crate) fn serve_wave(
     execution: &impl Execution,
     alloc: Global,
@@ -73,27 +170,39 @@ pub(crate) fn serve_wave(
     book: &mut Book,
     callers: &[u8; BATCH_LIMIT],
     places: &[u8],
+    words: &[Word],
     outcomes: &mut Vec<Outcome>,
-)
+) -> u64
     requires few { vec_len outcomes.old ≤ BATCH_LIMIT }
-    requires lawful { AreCallers callers.now }
+    requires lawful { AreBelow caller_limit callers.now }
+    requires few_places { length places.now ≤ BATCH_LIMIT }
+    requires paired { length words.now ≡ length places.now }
     requires within { All (λ p. p < vec_len outcomes.old) places.now }
     requires rising { AllPairs (λ p q. p < q) places.now }
     requires space { length places.now ≤ book.old.spaces }
+    requires words { AreWords words.now outcomes.old.items places.now }
+    requires apart { AllPairs (DoNotClash outcomes.old.items) places.now }
     ensures serves { (line : List Entry) (rs : List Request) (done : List ℕ) → AreAskedBy rs callers.now
         → All (IsOutside done) places.now
         → Serving book.old.room line rs done book.old.history outcomes.old.items
         → Serving book.old.room line rs (done ++ places.now) book.new.history outcomes.new.items }
     ensures sure { (done : List ℕ) → AnswersSure outcomes.old.items done → AnswersSure outcomes.new.items (done ++ places.now) }
+    ensures counted { RisesBy (different_kernels words.now + result) meter.old meter.new }
+    ensures few_singles { result ≤ length places.now }
     ensures back { WereBack outcomes.old.items outcomes.new.items }
     ensures room { book.new.room ≡ book.old.room }
     ensures spaces_left { book.old.spaces ≤ book.new.spaces + length places.now }
-    ensures counted { RisesBy (length places.now) meter.old meter.new }
     ensures count { vec_len outcomes.new ≡ vec_len outcomes.old }
     ensures spaces { vec_capacity outcomes.new ≡ vec_capacity outcomes.old }
 {
-    for k in 0..places.len() {
-        let place = usize::from(places[k]);
-        serve_place(execution, alloc, meter, book, callers, place, outcomes);
+    let mut turns = [Turn::Open; BATCH_LIMIT];
+    let mut works: Vec<Option<Work>> = Vec::new(alloc);
+    let mut singles: u64 = 0;
+    for position in 0..places.len() {
+        singles += serve_next(
+            execution, alloc, meter, book, callers, places, words, position, &mut turns,
+            &mut works, outcomes,
+        );
     }
+    singles
 }

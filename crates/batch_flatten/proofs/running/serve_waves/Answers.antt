@@ -1,65 +1,140 @@
 use Rattle.std.proofs.Common.{arith, rules, ◌≡◌, ◌∙◌, ◌+◌, ◌<◌, ◌++◌, All, ap, length, subst, sym, take, vec_len}
 use Rattle.std.proofs.lemmas.List.{length-append, length-take-le}
+use Rattle.batch_flatten.specs.Waves.{in_wave}
 use Rattle.batch_flatten.specs.Places.{IsOutside, places_of, places_of_first}
+use Rattle.batch_flatten.specs.Counts.{different_kernels, kernels_below}
 use Rattle.batch_flatten.specs.Serving.{AnswersSure}
-use Rattle.batch_flatten.proofs.CountLemmas.{rises-both, rises-more}
+use Rattle.batch_flatten.proofs.CountLemmas.{rises-both}
+use Rattle.batch_flatten.proofs.DifferentLemmas.{kernels-next}
 use Rattle.batch_flatten.proofs.PlaceLemmas.{places-next}
 use Rattle.batch_flatten.proofs.ServingLemmas.{back-again, serving_wave}
-use Rattle.batch_flatten.proofs.WavePlaces.{places-few, places-outside, places-within, rising-found, same-places}
+use Rattle.batch_flatten.proofs.TurnLemmas.{apart-kept, words-kept}
+use Rattle.batch_flatten.proofs.WavePlaces.{found-words, places-few, places-outside, places-within, rising-found, same-places, same-words, wave-apart}
 use Rattle.batch_flatten.proofs.running.serve_waves.Goals as goal
 
-pub serve_wave-requires-clause-within : goal.serve_wave-requires-clause-within
-serve_wave-requires-clause-within g c κs within =
-    let ws = take (vec_len c.args.outcomes.now) c.args.waves.now in
-    let long : length c.args.waves.now ≡ 64 = search rules in
-    let is : take c.find_places-found.result c.find_places-found.new.places ≡ places_of ws c.loop-wave.wave = same-places c.args.waves.now (take c.find_places-found.result c.find_places-found.new.places) c.loop-wave.wave c.len.result (vec_len c.args.outcomes.now) c.find_places-found.ensures.places (c.len.ensures ∙ c.loop-wave.invariant.count) in
-    let full : length ws ≡ vec_len c.args.outcomes.now = length-take-le (vec_len c.args.outcomes.now) c.args.waves.now (omega arith) in
-    let same = c.loop-wave.invariant.count in
-    subst (All (λ p. p < vec_len c.loop-wave.outcomes)) (sym is) (places-within ws c.loop-wave.wave (vec_len c.loop-wave.outcomes) (omega arith))
+pub serve_wave-singles-requires-clause-within : goal.serve_wave-singles-requires-clause-within
+serve_wave-singles-requires-clause-within g c κs within =
+    let n = vec_len c.args.outcomes.now in
+    let waves = c.args.roll.now.waves in
+    let ws = take n waves in
+    let wave = c.loop-wave.wave in
+    let inv = c.loop-wave.invariant in
+    let found = take c.find_wave-many.result c.find_wave-many.new.found in
+    let is : found ≡ places_of ws wave = same-places waves found wave c.len.result n c.find_wave-many.ensures.places (c.len.ensures ∙ inv.count) in
+    let long : length waves ≡ 64 = search rules in
+    let full : length ws ≡ n = length-take-le n waves (omega arith) in
+    let same = inv.count in
+    subst (All (λ p. p < vec_len c.loop-wave.outcomes)) (sym is) (places-within ws wave (vec_len c.loop-wave.outcomes) (omega arith))
 
-pub serve_wave-requires-clause-rising : goal.serve_wave-requires-clause-rising
-serve_wave-requires-clause-rising g c κs within =
-    rising-found (take c.len.result c.args.waves.now) (take c.find_places-found.result c.find_places-found.new.places) c.loop-wave.wave c.find_places-found.ensures.places
+pub serve_wave-singles-requires-clause-rising : goal.serve_wave-singles-requires-clause-rising
+serve_wave-singles-requires-clause-rising g c κs within =
+    rising-found (take c.len.result c.args.roll.now.waves) (take c.find_wave-many.result c.find_wave-many.new.found) c.loop-wave.wave c.find_wave-many.ensures.places
 
-pub serve_wave-requires-clause-space : goal.serve_wave-requires-clause-space
-serve_wave-requires-clause-space g c κs within =
-    let ws = take (vec_len c.args.outcomes.now) c.args.waves.now in
-    let long : length c.args.waves.now ≡ 64 = search rules in
-    let is : length (take c.find_places-found.result c.find_places-found.new.places) ≡ length (places_of ws c.loop-wave.wave) = ap length (same-places c.args.waves.now (take c.find_places-found.result c.find_places-found.new.places) c.loop-wave.wave c.len.result (vec_len c.args.outcomes.now) c.find_places-found.ensures.places (c.len.ensures ∙ c.loop-wave.invariant.count)) in
-    let full : length ws ≡ vec_len c.args.outcomes.now = length-take-le (vec_len c.args.outcomes.now) c.args.waves.now (omega arith) in
-    let few = places-few ws c.loop-wave.wave in
-    let left = c.loop-wave.invariant.spaces_left in
+pub serve_wave-singles-requires-clause-space : goal.serve_wave-singles-requires-clause-space
+serve_wave-singles-requires-clause-space g c κs within =
+    let n = vec_len c.args.outcomes.now in
+    let waves = c.args.roll.now.waves in
+    let ws = take n waves in
+    let wave = c.loop-wave.wave in
+    let inv = c.loop-wave.invariant in
+    let found = take c.find_wave-many.result c.find_wave-many.new.found in
+    let is : found ≡ places_of ws wave = same-places waves found wave c.len.result n c.find_wave-many.ensures.places (c.len.ensures ∙ inv.count) in
+    let long : length waves ≡ 64 = search rules in
+    let full : length ws ≡ n = length-take-le n waves (omega arith) in
+    let all = ap length is in
+    let few = places-few ws wave in
+    let left = inv.spaces_left in
+    omega arith
+
+pub serve_wave-singles-requires-clause-words : goal.serve_wave-singles-requires-clause-words
+serve_wave-singles-requires-clause-words g c κs within =
+    let n = vec_len c.args.outcomes.now in
+    let waves = c.args.roll.now.waves in
+    let ws = take n waves in
+    let wave = c.loop-wave.wave in
+    let inv = c.loop-wave.invariant in
+    let found = take c.find_wave-many.result c.find_wave-many.new.found in
+    let is : found ≡ places_of ws wave = same-places waves found wave c.len.result n c.find_wave-many.ensures.places (c.len.ensures ∙ inv.count) in
+    let long : length waves ≡ 64 = search rules in
+    let full : length ws ≡ n = length-take-le n waves (omega arith) in
+    let found_words = take c.find_wave-many.result c.find_wave-many.new.found_words in
+    let are : found_words ≡ in_wave wave ws (take n c.args.roll.now.words) = same-words waves c.args.roll.now.words found_words wave c.len.result n c.find_wave-many.ensures.words (c.len.ensures ∙ inv.count) in
+    let every : length c.args.roll.now.words ≡ 64 = search rules in
+    words-kept found_words c.args.outcomes.now.items c.loop-wave.outcomes.items found inv.back
+    (found-words c.args.roll.now.words found_words c.args.outcomes.now.items ws found wave n c.requires.words full (omega arith) is are)
+
+pub serve_wave-singles-requires-clause-apart : goal.serve_wave-singles-requires-clause-apart
+serve_wave-singles-requires-clause-apart g c κs within =
+    let n = vec_len c.args.outcomes.now in
+    let waves = c.args.roll.now.waves in
+    let ws = take n waves in
+    let wave = c.loop-wave.wave in
+    let inv = c.loop-wave.invariant in
+    let found = take c.find_wave-many.result c.find_wave-many.new.found in
+    let is : found ≡ places_of ws wave = same-places waves found wave c.len.result n c.find_wave-many.ensures.places (c.len.ensures ∙ inv.count) in
+    let long : length waves ≡ 64 = search rules in
+    let full : length ws ≡ n = length-take-le n waves (omega arith) in
+    apart-kept c.args.outcomes.now.items c.loop-wave.outcomes.items found inv.back (wave-apart waves c.args.outcomes.now.items found wave n c.requires.apart (omega arith) is)
+
+pub overflow_add-singles : goal.overflow_add-singles
+overflow_add-singles g c =
+    let n = vec_len c.args.outcomes.now in
+    let waves = c.args.roll.now.waves in
+    let ws = take n waves in
+    let wave = c.loop-wave.wave in
+    let inv = c.loop-wave.invariant in
+    let found = take c.find_wave-many.result c.find_wave-many.new.found in
+    let is : found ≡ places_of ws wave = same-places waves found wave c.len.result n c.find_wave-many.ensures.places (c.len.ensures ∙ inv.count) in
+    let long : length waves ≡ 64 = search rules in
+    let full : length ws ≡ n = length-take-le n waves (omega arith) in
+    let all = ap length is in
+    let few = places-few ws wave in
+    let before = inv.few_singles in
+    let one = c.serve_wave-singles.ensures.few_singles in
     omega arith
 
 pub loop-wave-preserved : goal.loop-wave-preserved
 loop-wave-preserved g c =
-    let ws = take (vec_len c.args.outcomes.now) c.args.waves.now in
+    let n = vec_len c.args.outcomes.now in
+    let waves = c.args.roll.now.waves in
+    let ws = take n waves in
     let wave = c.loop-wave.wave in
     let inv = c.loop-wave.invariant in
+    let found = take c.find_wave-many.result c.find_wave-many.new.found in
+    let is : found ≡ places_of ws wave = same-places waves found wave c.len.result n c.find_wave-many.ensures.places (c.len.ensures ∙ inv.count) in
+    let found_words = take c.find_wave-many.result c.find_wave-many.new.found_words in
+    let are : found_words ≡ in_wave wave ws (take n c.args.roll.now.words) = same-words waves c.args.roll.now.words found_words wave c.len.result n c.find_wave-many.ensures.words (c.len.ensures ∙ inv.count) in
     let done = places_of_first ws wave in
-    let is : take c.find_places-found.result c.find_places-found.new.places ≡ places_of ws wave = same-places c.args.waves.now (take c.find_places-found.result c.find_places-found.new.places) wave c.len.result (vec_len c.args.outcomes.now) c.find_places-found.ensures.places (c.len.ensures ∙ inv.count) in
-    let next : done ++ take c.find_places-found.result c.find_places-found.new.places ≡ places_of_first ws (wave + 1) = ap (λ l. done ++ l) is ∙ sym (places-next ws wave) in
+    let next : done ++ found ≡ places_of_first ws (wave + 1) = ap (λ l. done ++ l) is ∙ sym (places-next ws wave) in
     let more = ap length next in
-    let both = length-append done (take c.find_places-found.result c.find_places-found.new.places) in
+    let both = length-append done found in
+    let kernels = kernels-next ws (take n c.args.roll.now.words) wave in
+    let same = ap different_kernels are in
     let left = inv.spaces_left in
-    let fewer = c.serve_wave.ensures.spaces_left in
+    let fewer = c.serve_wave-singles.ensures.spaces_left in
+    let before = inv.few_singles in
+    let one = c.serve_wave-singles.ensures.few_singles in
     record {
       serves = λ line rs by s.
-          serving_wave c.args.book.now.room c.loop-wave.book.room line c.loop-wave.book.history rs done (take c.find_places-found.result c.find_places-found.new.places) (places_of_first ws (wave + 1)) c.loop-wave.outcomes.items
-          c.serve_wave.new.book.history c.serve_wave.new.outcomes.items inv.room next (subst (All (IsOutside done)) (sym is) (places-outside ws wave)) (inv.serves line rs by s) (c.serve_wave.ensures.serves line rs done by);
-      sure = subst (AnswersSure c.serve_wave.new.outcomes.items) next (c.serve_wave.ensures.sure done inv.sure);
-      back = back-again c.args.outcomes.now.items c.loop-wave.outcomes.items c.serve_wave.new.outcomes.items inv.back c.serve_wave.ensures.back;
-      room = c.serve_wave.ensures.room ∙ inv.room;
+          serving_wave c.args.book.now.room c.loop-wave.book.room line c.loop-wave.book.history rs done found (places_of_first ws (wave + 1)) c.loop-wave.outcomes.items
+          c.serve_wave-singles.new.book.history c.serve_wave-singles.new.outcomes.items inv.room next (subst (All (IsOutside done)) (sym is) (places-outside ws wave)) (inv.serves line rs by s) (c.serve_wave-singles.ensures.serves line rs done by);
+      sure = subst (AnswersSure c.serve_wave-singles.new.outcomes.items) next (c.serve_wave-singles.ensures.sure done inv.sure);
+      counted = rises-both (kernels_below ws (take n c.args.roll.now.words) wave + c.loop-wave.singles) (different_kernels found_words + c.serve_wave-singles.result)
+          (kernels_below ws (take n c.args.roll.now.words) (wave + 1) + (c.loop-wave.singles + c.serve_wave-singles.result)) c.args.meter.now c.loop-wave.meter c.serve_wave-singles.new.meter (omega arith) inv.counted c.serve_wave-singles.ensures.counted;
+      few_singles = omega arith;
+      back = back-again c.args.outcomes.now.items c.loop-wave.outcomes.items c.serve_wave-singles.new.outcomes.items inv.back c.serve_wave-singles.ensures.back;
+      room = c.serve_wave-singles.ensures.room ∙ inv.room;
       spaces_left = omega arith;
-      counted = rises-both (length done) (length (take c.find_places-found.result c.find_places-found.new.places)) (length (places_of_first ws (wave + 1))) c.args.meter.now c.loop-wave.meter c.serve_wave.new.meter (omega arith) inv.counted c.serve_wave.ensures.counted;
-      count = c.serve_wave.ensures.count ∙ inv.count;
-      spaces = c.serve_wave.ensures.spaces ∙ inv.spaces;
+      count = c.serve_wave-singles.ensures.count ∙ inv.count;
+      spaces = c.serve_wave-singles.ensures.spaces ∙ inv.spaces;
     }
 
-pub returns-clause-counted : goal.returns-clause-counted
-returns-clause-counted g c =
-    let ws = take (vec_len c.args.outcomes.now) c.args.waves.now in
-    let long : length c.args.waves.now ≡ 64 = search rules in
-    let full : length ws ≡ vec_len c.args.outcomes.now = length-take-le (vec_len c.args.outcomes.now) c.args.waves.now (omega arith) in
+pub returns-clause-few_singles : goal.returns-clause-few_singles
+returns-clause-few_singles g c =
+    let n = vec_len c.args.outcomes.now in
+    let ws = take n c.args.roll.now.waves in
+    let long : length c.args.roll.now.waves ≡ 64 = search rules in
+    let full : length ws ≡ n = length-take-le n c.args.roll.now.waves (omega arith) in
     let few = places-few ws c.loop-wave.wave in
-    rises-more (length (places_of_first ws c.loop-wave.wave)) (vec_len c.args.outcomes.now) c.args.meter.now c.loop-wave.meter (omega arith) c.loop-wave.invariant.counted
+    let singles = c.loop-wave.invariant.few_singles in
+    omega arith

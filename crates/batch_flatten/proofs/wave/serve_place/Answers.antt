@@ -7,10 +7,10 @@ pub returns-clause-serves : goal.returns-clause-serves
 returns-clause-serves g c =
     let os = c.args.outcomes.now.items in
     let place = c.args.place in
-    let was = c.index_mut.result.now in
+    let was = c.index_mut-outcome.result.now in
     let o = c.run_back.new.outcome in
     let long : vec_len c.args.outcomes.now ≡ length os = search rules in
-    let here = stands-here os place (vec_len c.args.outcomes.now) was c.requires.place long c.index_mut.ensures.value in
+    let here = stands-here os place (vec_len c.args.outcomes.now) was c.requires.place long c.index_mut-outcome.ensures.value in
     let ran = subst (λ k. RunsBack c.args.book.now c.run_back.new.book k was o) c.from-caller.ensures c.run_back.ensures.ran in
     λ line rs done by out.
     serving_turn c.args.book.now.room line rs c.args.callers.now done place c.args.book.now c.run_back.new.book os was o refl (omega arith) by out here ran
@@ -18,15 +18,15 @@ returns-clause-serves g c =
 pub returns-clause-sure : goal.returns-clause-sure
 returns-clause-sure g c =
     let os = c.args.outcomes.now.items in
-    let was = c.index_mut.result.now in
+    let was = c.index_mut-outcome.result.now in
     let long : vec_len c.args.outcomes.now ≡ length os = search rules in
-    let here = stands-here os c.args.place (vec_len c.args.outcomes.now) was c.requires.place long c.index_mut.ensures.value in
+    let here = stands-here os c.args.place (vec_len c.args.outcomes.now) was c.requires.place long c.index_mut-outcome.ensures.value in
     λ done. sure-turn c.args.book.now c.run_back.new.book c.from-caller.result os done c.args.place was c.run_back.new.outcome here c.run_back.ensures.ran c.run_back.ensures.sure
 
 pub returns-clause-back : goal.returns-clause-back
 returns-clause-back g c =
     let os = c.args.outcomes.now.items in
-    let was = c.index_mut.result.now in
+    let was = c.index_mut-outcome.result.now in
     let long : vec_len c.args.outcomes.now ≡ length os = search rules in
-    let here = stands-here os c.args.place (vec_len c.args.outcomes.now) was c.requires.place long c.index_mut.ensures.value in
+    let here = stands-here os c.args.place (vec_len c.args.outcomes.now) was c.requires.place long c.index_mut-outcome.ensures.value in
     back-turn c.args.book.now c.run_back.new.book c.from-caller.result os c.args.place was c.run_back.new.outcome here c.run_back.ensures.ran

@@ -2,7 +2,7 @@ use Rattle.std.proofs.Common.{arith, rules, ◌≡◌, ◌∙◌, ◌+◌, ◌<�
 use Rattle.std.proofs.lemmas.List.{take_more}
 use Rattle.batch_flatten.specs.Waves.{count_of}
 use Rattle.batch_flatten.proofs.WavePlaces.{count_of-push}
-use Rattle.batch_flatten.proofs.running.wave_count.Goals as goal
+use Rattle.batch_flatten.proofs.roll.wave_count.Goals as goal
 
 pub loop-i-preserved : goal.loop-i-preserved
 loop-i-preserved c =
