@@ -1,70 +1,75 @@
--- Requests that are run one after the other.
--- `run_answers` and `run_refuses` are one that is run; `running_asks` says that the next request is one that may be run, and `running_next` what stands once it has run.
-use Rattle.std.proofs.Common.{◌≡◌, ℕ, ◌<◌, cond, List, [], ◌∷◌, ◌++◌, length, append_assoc, Option, Some, None, refl, sym, ap, ◌∙◌, subst, arith, length-append, ne_eqb}
-use Rattle.std.specs.Prelude.{reverse}
-use Rattle.std.specs.List.{AllByRecursion}
-use Rattle.std.proofs.lemmas.List.{reverse-append}
-use Rattle.cvl_text.specs.declared.call.Call.{Call}
-use Rattle.cvl_text.specs.declared.reply.Reply.{Reply}
-use Rattle.cvl_text.specs.Answers.{answer_of}
+-- The batch of a pass.
+-- `batch_pairs` says that what was taken may be run, `pass_batch` what running it comes to, and `few_waves` that a batch has no more
+-- waves than calls.
+use Rattle.std.proofs.Common.{◌≡◌, ◌≢◌, ◌⊎◌, inl, inr, ℕ, zero, suc, ◌+◌, ◌<◌, ◌≤◌, List, [], ◌∷◌, ◌++◌, length, map, None, sym, ap, ◌∙◌, subst, arith, length-append}
+use Rattle.std.proofs.lemmas.List.{length-map}
+use Rattle.std.specs.List.{AllByRecursion, AllPairs, slice_index_or}
+use Rattle.cvl_text.specs.Tasks.{Task}
 use Rattle.call_history.specs.declared.entry.Entry.{Entry}
 use Rattle.call_history.specs.declared.request.Request.{Request}
 use Rattle.call_history.specs.declared.request.Outcome.{Outcome}
-use Rattle.call_history.specs.declared.request.Outcome.TheVariants.{Answered, Refused}
-use Rattle.call_history.specs.History.{entry, reply_after}
-use Rattle.call_history.specs.Callers.{caller_limit}
-use Rattle.call_history.specs.Books.{BookState}
-use Rattle.call_history.specs.Fits.{request, request_by, Fits}
-use Rattle.call_history.proofs.Serving.{fits_answered, fits_refused}
+use Rattle.call_history.specs.Fits.{request_by, returned}
+use Rattle.call_history.specs.History.{Begins}
+use Rattle.batch_flatten.specs.declared.ran.Ran.{Ran}
+use Rattle.batch_flatten.specs.Batches.{AnswersAllSure, ServesInOrder}
+use Rattle.batch_flatten.specs.Counts.{kernel_bound, wave_count}
+use Rattle.batch_flatten.specs.Waves.{asked, count_of, wave_of, waves_behind}
+use Rattle.batch_flatten.proofs.WaveLemmas.{wave_of-le}
 use Rattle.request_slots.specs.Seating.{IsDistinct}
 use Rattle.request_slots.proofs.RequestLists.{request_by-middle}
-use Rattle.combiner.specs.Passes.{IsRun, IsBatch, Running}
+use Rattle.combiner.specs.Serving.{ServesBatch}
 
--- a call that was answered, and one that came back
-pub run_answers : (old new : BookState) (k ticket : ℕ) (call : Call) (place : ℕ) (reply : Reply) → new.room ≡ old.room → new.history ≡ old.history ++ entry k ticket call ∷ [] → place ≡ length old.history
-    → answer_of reply ≡ reply_after old.room old.history call → IsRun old new k call (Answered place reply)
-run_answers old new k ticket call place reply room_is grown at replies = record {
-  room_is = room_is;
-  fits = λ line rs os same fresh f. subst (λ (z : List Entry × ℕ). Fits old.room line (rs ++ request k call ∷ []) z.0 (os ++ Answered z.1 reply ∷ [])) (λ i. (sym grown i, sym at i))
-      (fits_answered old.room line old.history rs os k ticket call reply same fresh replies f);
+apart : (k : ℕ) (rs : List Request) → request_by k rs ≡ None → (j : ℕ) (d : Request) → j < length rs → k ≢ (slice_index_or rs j d).caller
+apart k [] none j d lt = absurd (omega arith)
+apart k (r ∷ rs) none zero d lt = (request_by-middle k r.caller [] rs r.call none).0
+apart k (r ∷ rs) none (suc j) d lt = apart k rs (request_by-middle k r.caller [] rs r.call none).1 j d (omega arith)
+
+pub batch_pairs : (rs : List Request) → IsDistinct rs → AllPairs (λ r s. r.caller ≢ s.caller) rs
+batch_pairs [] distinct i j d lt within = absurd (omega arith)
+batch_pairs (r ∷ rs) distinct zero zero d lt within = absurd (omega arith)
+batch_pairs (r ∷ rs) distinct zero (suc j) d lt within = apart r.caller rs distinct.0 j d (omega arith)
+batch_pairs (r ∷ rs) distinct (suc i) zero d lt within = absurd (omega arith)
+batch_pairs (r ∷ rs) distinct (suc i) (suc j) d lt within = batch_pairs rs distinct.1 i j d (omega arith) (omega arith)
+
+waves_behind-few : (before : List (ℕ × Task)) (ts : List Task) → count_of (waves_behind before ts) ≤ length before + length ts
+waves_behind-few before [] = omega arith
+waves_behind-few before (t ∷ ts) =
+    let next : ℕ × Task = (wave_of before t, t) in
+    omega (arith, wave_of-le before t, waves_behind-few (before ++ next ∷ []) ts, length-append before (next ∷ []))
+
+wave_count-few : (rs : List Request) → wave_count rs ≤ length rs
+wave_count-few rs = omega (arith, waves_behind-few [] (map asked rs), length-map rs asked)
+
+pub few_waves : {room callers : ℕ} {before now : List Entry} {calls waves kernels : ℕ} → ServesBatch room callers before now calls waves kernels → waves ≤ calls
+few_waves {now = now} {calls = calls} {waves = waves} {kernels = kernels} b = go b.waves_are
+  where
+    go : (waves ≡ wave_count b.requests) ⊎ ((waves ≡ 0) × (kernels ≡ 0) × (now ≡ b.line) × (b.outcomes ≡ map returned b.requests)) → waves ≤ calls
+    go (inl all) = omega (arith, all, wave_count-few b.requests, b.counted)
+    go (inr none) = omega (arith, none.0)
+
+-- what a run of the batch says, where the history that it led to is the one that has been seen
+pub pass_batch : (room callers calls : ℕ) (before line book now : List Entry) (requests : List Request) (outcomes : List Outcome) (ran nothing : Ran) → nothing.waves ≡ 0 → nothing.kernels ≡ 0 → Begins before line → now ≡ book → length requests ≡ calls
+    → IsDistinct requests → AllByRecursion (λ r. r.caller < callers) requests → ServesInOrder room line requests book outcomes
+    → (ran.waves ≡ wave_count requests) ⊎ ((ran ≡ nothing) × (book ≡ line) × (outcomes ≡ map returned requests))
+    → (0 < ran.waves → AnswersAllSure requests outcomes) → ran.kernels ≤ kernel_bound requests + ran.singles → ran.singles ≤ length requests
+    → ServesBatch room callers before now calls ran.waves ran.kernels
+pass_batch room callers calls before line book now requests outcomes ran nothing no_waves no_kernels begins seen counted distinct inside serves waves sure bound few = record {
+  line = line;
+  requests = requests;
+  outcomes = outcomes;
+  singles = ran.singles;
+  begins = begins;
+  counted = counted;
+  distinct = distinct;
+  inside = inside;
+  serves = subst (λ (l : List Entry). ServesInOrder room line requests l outcomes) (sym seen) serves;
+  waves_are = go waves;
+  sure = sure;
+  bound = bound;
+  few_singles = omega (arith, few, counted);
 }
-
-pub run_refuses : (old new : BookState) (k : ℕ) (call back : Call) → new.room ≡ old.room → new.history ≡ old.history → back ≡ call → IsRun old new k call (Refused back)
-run_refuses old new k call back room_is unchanged same_call = record {
-  room_is = room_is;
-  fits = λ line rs os same fresh f. subst (λ (z : List Entry × Call). Fits old.room line (rs ++ request k call ∷ []) z.0 (os ++ Refused z.1 ∷ [])) (λ i. (sym unchanged i, sym same_call i))
-      (fits_refused old.room line old.history rs os k call same fresh f);
-}
-
-distinct_front : (xs ys : List Request) (r : Request) → IsDistinct (xs ++ r ∷ ys) → request_by r.caller xs ≡ None
-distinct_front [] ys r d = refl
-distinct_front (x ∷ xs) ys r d = let front = request_by-middle x.caller r.caller xs ys r.call d.0 in
-    ap (λ b. cond {A = Option (List Call)} b (Some (x.call ∷ [])) (request_by r.caller xs)) (ne_eqb x.caller r.caller front.0) ∙ distinct_front xs ys r d.1
-
-lawful_middle : (xs ys : List Request) (r : Request) → AllByRecursion (λ z. z.caller < caller_limit) (xs ++ r ∷ ys) → r.caller < caller_limit
-lawful_middle [] ys r all = all.0
-lawful_middle (x ∷ xs) ys r all = lawful_middle xs ys r all.1
-
--- where the next request stands
-next_stands : (done rest rest' : List Request) (r : Request) → rest ≡ rest' ++ r ∷ [] → done ++ reverse rest ≡ done ++ r ∷ reverse rest'
-next_stands done rest rest' r is = ap (λ l. done ++ reverse l) is ∙ ap (λ l. done ++ l) (reverse-append rest' (r ∷ []))
-
-pub running_asks : (requests rest rest' : List Request) (opened book : BookState) (outcomes : List Outcome) (r : Request) → rest ≡ rest' ++ r ∷ [] → IsBatch requests → Running requests opened rest book outcomes
-    → r.caller < caller_limit
-running_asks requests rest rest' opened book outcomes r is batch t =
-    lawful_middle t.done (reverse rest') r (subst (AllByRecursion (λ z. z.caller < caller_limit)) (t.all ∙ next_stands t.done rest rest' r is) batch.lawful)
-
-pub running_next : (requests rest rest' : List Request) (opened book book' : BookState) (outcomes : List Outcome) (o : Outcome) (r : Request) → rest ≡ rest' ++ r ∷ [] → IsRun book book' r.caller r.call o → IsBatch requests
-    → Running requests opened rest book outcomes → Running requests opened rest' book' (outcomes ++ o ∷ [])
-running_next requests rest rest' opened book book' outcomes o r is run batch t =
-    let stands = t.all ∙ next_stands t.done rest rest' r is in
-    let fresh = distinct_front t.done (reverse rest') r (subst IsDistinct stands batch.distinct) in
-    let fits = run.fits opened.history t.done outcomes t.paired fresh (subst (λ (z : ℕ). Fits z opened.history t.done book.history outcomes) (sym t.room_is) t.fits) in
-    let paired = t.paired in
-    record {
-      done = t.done ++ r ∷ [];
-      all = stands ∙ sym (append_assoc t.done (r ∷ []) (reverse rest'));
-      fits = subst (λ (z : ℕ). Fits z opened.history (t.done ++ r ∷ []) book'.history (outcomes ++ o ∷ [])) t.room_is fits;
-      paired = omega (arith, length-append outcomes (o ∷ []), length-append t.done (r ∷ []));
-      room_is = run.room_is ∙ t.room_is;
-    }
+  where
+    go : (ran.waves ≡ wave_count requests) ⊎ ((ran ≡ nothing) × (book ≡ line) × (outcomes ≡ map returned requests))
+        → (ran.waves ≡ wave_count requests) ⊎ ((ran.waves ≡ 0) × (ran.kernels ≡ 0) × (now ≡ line) × (outcomes ≡ map returned requests))
+    go (inl all) = inl all
+    go (inr none) = inr (ap (λ (r : Ran). r.waves) none.0 ∙ no_waves, ap (λ (r : Ran). r.kernels) none.0 ∙ no_kernels, seen ∙ none.1, none.2)

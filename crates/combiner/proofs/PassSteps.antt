@@ -89,14 +89,21 @@ pub taking_same : (before now : Known) (i : ℕ) (requests requests' : List Requ
 taking_same before now i requests requests' numbers numbers' a b t = subst (λ (z : List Request × (List ℕ)). Taking before now i z.0 z.1) (λ j. (sym a j, sym b j)) t
 
 -- requests of callers below a number
-inside_all : (callers : ℕ) (rs : List Request) → callers ≤ caller_limit → ((k : ℕ) → callers ≤ k → request_by k rs ≡ None) → AllByRecursion (λ r. r.caller < caller_limit) rs
-inside_all callers [] small none = tt
-inside_all callers (r ∷ rs) small none =
-    let below : r.caller < callers = lt_of_not-le (λ far. (request_by-middle r.caller r.caller [] rs r.call (none r.caller far)).0 refl) in
-    (omega arith, inside_all callers rs small (λ k far. (request_by-middle k r.caller [] rs r.call (none k far)).1))
+inside_all : (callers : ℕ) (rs : List Request) → ((k : ℕ) → callers ≤ k → request_by k rs ≡ None) → AllByRecursion (λ r. r.caller < callers) rs
+inside_all callers [] none = tt
+inside_all callers (r ∷ rs) none = (
+  lt_of_not-le (λ far. (request_by-middle r.caller r.caller [] rs r.call (none r.caller far)).0 refl),
+  inside_all callers rs (λ k far. (request_by-middle k r.caller [] rs r.call (none k far)).1),
+)
 
-pub taking_batch : (before now : Known) (callers : ℕ) (requests : List Request) (numbers : List ℕ) → callers ≤ caller_limit → Taking before now callers requests numbers → IsBatch requests
-taking_batch before now callers requests numbers small t = subst IsBatch (sym t.requests_are) record { distinct = t.distinct; lawful = inside_all callers (pass_in now).taken small t.untaken }
+lawful_all : (callers : ℕ) (rs : List Request) → callers ≤ caller_limit → AllByRecursion (λ r. r.caller < callers) rs → AllByRecursion (λ r. r.caller < caller_limit) rs
+lawful_all callers [] small inside = tt
+lawful_all callers (r ∷ rs) small inside = let near = inside.0 in (omega arith, lawful_all callers rs small inside.1)
+
+pub taking_batch : (before now : Known) (callers : ℕ) (requests : List Request) (numbers : List ℕ) → callers ≤ caller_limit → Taking before now callers requests numbers → IsBatch callers requests
+taking_batch before now callers requests numbers small t =
+    let inside = inside_all callers (pass_in now).taken t.untaken in
+    subst (IsBatch callers) (sym t.requests_are) record { distinct = t.distinct; inside = inside; lawful = lawful_all callers (pass_in now).taken small inside }
 
 -- the steps of a pass, one after the other
 pub pass_serves : (callers : ℕ) (c k1 k2 k3 k4 k5 : Known) (line book : List Entry) (outcomes : List Outcome) (requests : List Request) (numbers : List ℕ) → k1 ≡ locking c line

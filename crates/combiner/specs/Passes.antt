@@ -1,16 +1,14 @@
 -- A pass: each word is tried, what was taken is run, and after the commit each caller is told.
--- `Taking` is a pass up to the last try, `IsBatch` what may be run in it, `IsRun` one call that is run, `Telling` a pass behind its
--- commit, and `HasServed` what a whole pass comes to.
-use Rattle.std.specs.Prelude.{◌≡◌, ℕ, ◌<◌, ◌≤◌, true, false, List, [], ◌∷◌, ◌++◌, length, map, take, reverse, None}
+-- `Taking` is a pass up to the last try, `IsBatch` what may be run in it, `Telling` a pass behind its commit, and `HasServed` what a
+-- whole pass comes to.
+use Rattle.std.specs.Prelude.{◌≡◌, ℕ, ◌<◌, ◌≤◌, true, false, List, ◌++◌, length, map, take, None}
 use Rattle.std.specs.List.{AllByRecursion}
-use Rattle.cvl_text.specs.declared.call.Call.{Call}
 use Rattle.call_history.specs.declared.entry.Entry.{Entry}
 use Rattle.call_history.specs.declared.request.Request.{Request}
 use Rattle.call_history.specs.declared.request.Outcome.{Outcome}
 use Rattle.call_history.specs.History.{Begins}
 use Rattle.call_history.specs.Callers.{caller_limit}
-use Rattle.call_history.specs.Books.{BookState}
-use Rattle.call_history.specs.Fits.{request, request_by, Fits}
+use Rattle.call_history.specs.Fits.{request_by}
 use Rattle.request_slots.specs.declared.known.Known.{Known}
 use Rattle.request_slots.specs.Passes.{is_in}
 use Rattle.request_slots.specs.Changes.{serving}
@@ -34,24 +32,11 @@ pub record Taking (before now : Known) (i : ℕ) (requests : List Request) (numb
   pub few : length requests ≤ i
   pub numbered : take (length requests) numbers ≡ map asker requests
 
--- behind each batch that led to the book's history, one more request of another caller fits, with this outcome
-pub record IsRun (old new : BookState) (k : ℕ) (call : Call) (outcome : Outcome) : Type 0 where
-  pub room_is : new.room ≡ old.room
-  pub fits : (line : List Entry) (rs : List Request) (os : List Outcome) → length os ≡ length rs → request_by k rs ≡ None
-      → Fits old.room line rs old.history os → Fits old.room line (rs ++ request k call ∷ []) new.history (os ++ outcome ∷ [])
-
--- requests of distinct callers
-pub record IsBatch (requests : List Request) : Type 0 where
+-- requests of distinct callers, of so many
+pub record IsBatch (callers : ℕ) (requests : List Request) : Type 0 where
   pub distinct : IsDistinct requests
+  pub inside : AllByRecursion (λ r. r.caller < callers) requests
   pub lawful : AllByRecursion (λ r. r.caller < caller_limit) requests
-
--- the requests that are left stand in reverse order, and those before them were run
-pub record Running (requests : List Request) (opened : BookState) (rest : List Request) (book : BookState) (outcomes : List Outcome) : Type 0 where
-  pub done : List Request
-  pub all : requests ≡ done ++ reverse rest
-  pub fits : Fits opened.room opened.history done book.history outcomes
-  pub paired : length outcomes ≡ length done
-  pub room_is : book.room ≡ opened.room
 
 -- the outcomes that are left are those of the requests that are left, of all that the commit had
 pub record Telling (callers : ℕ) (before now : Known) (outcomes : List Outcome) (numbers : List ℕ) (count : ℕ) : Type 0 where

@@ -1,16 +1,17 @@
 //! One pass of a caller that serves what all callers left.
 
 ghost use Rattle.std.specs.Prelude.{◌≡◌, ◌+◌, ◌<◌, ◌≤◌, [], length, None, Some, IfSome, IfNone, vec_len, vec_capacity};
-ghost use Rattle.call_history.specs.Fits.{Fits};
 ghost use Rattle.request_slots.specs.Passes.{fresh_pass};
 ghost use Rattle.request_slots.specs.Views.{pass_in, with_standing};
 ghost use Rattle.combiner.specs.Standing.{callers_of, Rests, IsOfCallers};
 ghost use Rattle.combiner.specs.Says.{MeetsAnother};
-ghost use Rattle.combiner.specs.Passes.{Taking, IsBatch, IsRun, Telling, HasServed};
+ghost use Rattle.combiner.specs.Serving.{ServesBatch};
+ghost use Rattle.combiner.specs.Passes.{Taking, Telling, HasServed};
 
-use call_history::{Book, Outcome, Request};
+use batch_flatten::{Ran, run_batch};
+use call_history::{Outcome, Request};
 use request_slots::{Seat, Slots};
-use scan_kernels::Execution;
+use scan_kernels::{Execution, Meter};
 use std::alloc::Global;
 
 /// Tries each word in turn, once. The callers of the requests taken stand in `numbers`.
@@ -41,43 +42,6 @@ fn take_all(
     }
 }
 
-/// Runs a request, and says what became of it.
-fn run(execution: &impl Execution, alloc: Global, book: &mut Book, request: Request) -> Outcome
-    requires { request.caller < 64 }
-    ensures { IsRun book.old book.new request.caller request.call result }
-{
-    let Request { caller, call } = request;
-    match book.run(execution, alloc, caller, call) {
-        Ok((place, reply)) => Outcome::Answered { place, reply },
-        Err((call, _)) => Outcome::Refused(call),
-    }
-}
-
-/// Runs the requests in their order. What became of them stands in the same order.
-fn run_all(
-    execution: &impl Execution,
-    alloc: Global,
-    book: &mut Book,
-    requests: &mut Vec<Request>,
-    outcomes: &mut Vec<Outcome>,
-)
-    requires batch { IsBatch requests.old.items }
-    requires empty { outcomes.old.items ≡ [] }
-    requires spaces { vec_len requests.old ≤ vec_capacity outcomes.old }
-    ensures fits { Fits book.old.room book.old.history requests.old.items book.new.history outcomes.new.items }
-    ensures paired { length outcomes.new.items ≡ length requests.old.items }
-    ensures room { book.new.room ≡ book.old.room }
-    ensures empty { requests.new.items ≡ [] }
-    ensures request_spaces { vec_capacity requests.new ≡ vec_capacity requests.old }
-    ensures outcome_spaces { vec_capacity outcomes.new ≡ vec_capacity outcomes.old }
-{
-    requests.reverse();
-    while let Some(request) = requests.pop() {
-        let outcome = run(execution, alloc, book, request);
-        outcomes.push_reserved(outcome);
-    }
-}
-
 /// Tells each outcome to its caller, the last one first.
 fn answer_all(
     slots: &Slots,
@@ -101,20 +65,23 @@ fn answer_all(
     }
 }
 
-/// Serves what all callers left, unless another caller has the desk. How many calls were taken.
+/// Serves what all callers left, as one batch, unless another caller has the desk. How many calls were taken, and how they were
+/// served.
 pub(crate) fn pass(
     execution: &impl Execution,
     alloc: Global,
     slots: &Slots,
     seat: &mut Seat,
     callers: usize,
-) -> Option<usize>
+) -> Option<(usize, Ran)>
     requires place { seat.old.standing.machine ≡ slots.now }
     requires callers { (callers + 1 ≡ slots.now.slots) × (callers ≤ 64) }
     requires no_desk { seat.old.pass ≡ None }
     ensures place { seat.new.standing.machine ≡ slots.now }
-    ensures served { IfSome result (HasServed seat.old seat.new) }
-    ensures few { IfSome result (λ count. count ≤ callers) }
+    ensures served { IfSome result (λ p. HasServed seat.old seat.new p.0) }
+    ensures batch { IfSome result (λ p. ServesBatch seat.old.standing.room callers
+        seat.old.standing.seen seat.new.standing.seen p.0 p.1.waves p.1.kernels) }
+    ensures few { IfSome result (λ p. p.0 ≤ callers) }
     ensures rests { IfSome result (λ _. Rests seat.new.standing) }
     ensures no_strangers { IfSome result (λ _. IsOfCallers (callers_of seat.new.standing.machine) seat.new.standing.seen) }
     ensures busy { IfNone result (MeetsAnother seat.old.standing seat.new.standing) }
@@ -125,15 +92,16 @@ pub(crate) fn pass(
     take_all(slots, seat, callers, &mut desk.requests, &mut numbers);
     let count = desk.requests.len();
     let open = &mut *desk;
-    run_all(
+    let ran = run_batch(
         execution,
         alloc,
         &mut open.book,
         &mut open.requests,
         &mut open.outcomes,
+        &mut Meter::new(),
     );
     slots.step_commit(seat, &desk);
     answer_all(slots, seat, callers, &numbers, &mut desk.outcomes);
     slots.step_unlock(seat, desk);
-    Some(count)
+    Some((count, ran))
 }

@@ -3,6 +3,7 @@
 mod alone;
 mod asking;
 mod at_once;
+mod batches;
 mod no_wait;
 mod pair;
 mod table;

@@ -3,6 +3,7 @@ ghost use Rattle.call_history.specs.History.{Begins};
 ghost use Rattle.combiner.specs.Standing.{callers_of, Rests};
 ghost use Rattle.combiner.specs.Cases.{OnBusy, OnServed, IfServed};
 ghost use Rattle.combiner.specs.Says.{MeetsAnother, serving};
+ghost use Rattle.combiner.specs.Serving.{ServesBatch};
 
 use crate::answers::Combined;
 use crate::caller::Caller;
@@ -13,6 +14,7 @@ use std::alloc::Global;
 
 impl Shared {
     /// Serves all calls that are left, unless another caller has the book, which cannot be with one caller. It does not wait.
+    /// They are one batch: planned in waves, and alike calls of a wave run as one kernel run.
     /// The caller has then seen the whole history, and if it has left a call, it is settled: its next poll tells what became
     /// of that.
     pub fn combine(
@@ -27,11 +29,13 @@ impl Shared {
         ensures not_alone { OnBusy result (1 < callers_of self.now) }
         ensures served { IfServed result (λ calls waves kernels. caller.new ≡ serving caller.old caller.new.seen calls) }
         ensures later { OnServed result (Begins caller.old.seen caller.new.seen) }
-        ensures one_by_one { IfServed result (λ calls waves kernels. (waves ≡ calls) × (kernels ≡ 0)) }
+        ensures batch { IfServed result
+            (ServesBatch caller.old.room (callers_of self.now) caller.old.seen caller.new.seen) }
+        ensures few_waves { IfServed result (λ calls waves kernels. waves ≤ calls) }
         ensures few { IfServed result (λ calls waves kernels. calls ≤ callers_of self.now) }
         ensures rests { Rests caller.new }
     {
-        let Some(count) = pass(
+        let Some((count, ran)) = pass(
             execution,
             alloc,
             &self.slots,
@@ -40,11 +44,10 @@ impl Shared {
         ) else {
             return Combined::Busy;
         };
-        let calls = count as u64;
         Combined::Served {
-            calls,
-            waves: calls,
-            kernels: 0,
+            calls: count as u64,
+            waves: ran.waves,
+            kernels: ran.kernels,
         }
     }
 }

@@ -60,26 +60,26 @@ pub(crate) fn polls(
     at == place && is_text(alloc, &reply, wanted)
 }
 
-/// Whether a pass serves so many calls.
+/// Whether a pass serves so many calls, in so many waves, by so many kernel runs.
 pub(crate) fn serves(
     rt: &(impl Threads + Sync),
     alloc: Global,
     shared: &Shared,
     caller: &mut Caller,
-    calls: u64,
+    wanted: (u64, u64, u64),
 ) -> bool
     requires { caller.old.machine ≡ shared.now }
     ensures { caller.new.machine ≡ shared.now }
 {
     let Combined::Served {
-        calls: served,
+        calls,
         waves,
         kernels,
     } = shared.combine(rt, alloc, caller)
     else {
         return false;
     };
-    served == calls && waves == calls && kernels == 0
+    (calls, waves, kernels) == wanted
 }
 
 /// Whether the call of this line is answered at this place, with a reply of this text.
@@ -104,6 +104,30 @@ pub(crate) fn calls(
         return false;
     };
     at == place && is_text(alloc, &reply, wanted)
+}
+
+/// Whether the call of each line is answered with the reply of the text beside it.
+pub(crate) fn calls_all(
+    rt: &(impl Threads + Wait + Sync),
+    alloc: Global,
+    shared: &Shared,
+    caller: &mut Caller,
+    lines: &[(&[u8], &[u8])],
+) -> bool
+    requires machine { caller.old.machine ≡ shared.now }
+    requires idle { IsIdle caller.old }
+    ensures machine { caller.new.machine ≡ shared.now }
+    ensures idle { IsIdle caller.new }
+{
+    let mut all_told = true;
+    for (line, wanted) in lines {
+        let Ok(call) = Call::read(alloc, line) else {
+            return false;
+        };
+        let answer = shared.call(rt, alloc, caller, call);
+        all_told &= matches!(&answer, Ok((_, reply)) if is_text(alloc, reply, wanted));
+    }
+    all_told
 }
 
 /// Whether the entry at a place is of this caller, with this ticket.

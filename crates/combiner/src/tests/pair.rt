@@ -11,7 +11,7 @@ fn dropped_caller_is_served(rt: HostRuntime) -> Result<(), Fail> {
     let (shared, mut first, mut second) = two(rt.alloc()).ok_or("memory")?;
     assert!(rt; posts(rt.alloc(), &shared, &mut first, b"a = z 1"));
     drop(first);
-    assert!(rt; serves(&rt, rt.alloc(), &shared, &mut second, 1));
+    assert!(rt; serves(&rt, rt.alloc(), &shared, &mut second, (1, 1, 0)));
     assert!(rt; shared.look(&mut second) == 1);
     assert!(rt; polls_idle(&shared, &mut second));
     let book = shared.close(second)?;
@@ -47,14 +47,15 @@ fn close_unseen(rt: HostRuntime) -> Result<(), Fail> {
     Ok(())
 }
 
-/// Two calls in one pass stand in the order of their callers, and a call that is not served is not in the book.
+/// Two calls in one pass stand in the order of their callers where the second reads what the first writes, and a call that is
+/// not served is not in the book.
 #[test]
 fn serves_in_order(rt: HostRuntime) -> Result<(), Fail> {
     let (shared, mut first, mut second) = two(rt.alloc()).ok_or("memory")?;
     assert!(rt; posts(rt.alloc(), &shared, &mut second, b"add_ruz a"));
     assert!(rt; posts(rt.alloc(), &shared, &mut first, b"a = z 3 4"));
     assert!(rt; polls_waiting(&shared, &mut first));
-    assert!(rt; serves(&rt, rt.alloc(), &shared, &mut second, 2));
+    assert!(rt; serves(&rt, rt.alloc(), &shared, &mut second, (2, 2, 1)));
     assert!(rt; polls(rt.alloc(), &shared, &mut first, 0, b"ok"));
     assert!(rt; polls(rt.alloc(), &shared, &mut second, 1, b"int 7"));
     assert!(rt; posts(rt.alloc(), &shared, &mut first, b"fre_fov a"));
@@ -74,7 +75,7 @@ fn post_under_lock(rt: HostRuntime) -> Result<(), Fail> {
     assert!(rt; shared.look(&mut first) == 1);
     assert!(rt; matches!(&shared.combine(&rt, rt.alloc(), &mut first), Combined::Busy));
     shared.slots.step_unlock(&mut second.seat, desk);
-    assert!(rt; serves(&rt, rt.alloc(), &shared, &mut first, 1));
+    assert!(rt; serves(&rt, rt.alloc(), &shared, &mut first, (1, 1, 0)));
     assert!(rt; polls(rt.alloc(), &shared, &mut first, 1, b"z 1"));
     Ok(())
 }

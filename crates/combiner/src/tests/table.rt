@@ -1,6 +1,6 @@
 //! Machines for the tests, and those that there cannot be.
 
-ghost use Rattle.std.specs.Prelude.{◌≡◌, IfSome};
+ghost use Rattle.std.specs.Prelude.{◌≡◌, All, IfSome};
 ghost use Rattle.combiner.specs.Standing.{IsNewAt, callers_of};
 
 use crate::{Caller, MakeFault, Shared};
@@ -23,10 +23,29 @@ pub(crate) fn two(alloc: Global) -> Option<(Shared, Caller, Caller)>
     ensures first { IfSome result (λ m. IsNewAt m.0 100 m.1) }
     ensures second { IfSome result (λ m. IsNewAt m.0 100 m.2) }
 {
-    let (shared, mut callers) = Shared::new(alloc, 2, 100).ok()?;
+    two_with(alloc, 100)
+}
+
+/// A machine with two callers, and room for so many items.
+pub(crate) fn two_with(alloc: Global, room: u64) -> Option<(Shared, Caller, Caller)>
+    ensures size { IfSome result (λ m. callers_of m.0 ≡ 2) }
+    ensures first { IfSome result (λ m. IsNewAt m.0 room m.1) }
+    ensures second { IfSome result (λ m. IsNewAt m.0 room m.2) }
+{
+    let (shared, mut callers) = Shared::new(alloc, 2, room).ok()?;
     let second = callers.pop()?;
     let first = callers.pop()?;
     Some((shared, first, second))
+}
+
+/// A machine with the greatest number of callers, and the last of them by itself.
+pub(crate) fn all(alloc: Global) -> Option<(Shared, Vec<Caller>, Caller)>
+    ensures others { IfSome result (λ m. All (λ c. c.machine ≡ m.0) m.1.items) }
+    ensures last { IfSome result (λ m. m.2.machine ≡ m.0) }
+{
+    let (shared, mut callers) = Shared::new(alloc, 64, 100).ok()?;
+    let last = callers.pop()?;
+    Some((shared, callers, last))
 }
 
 #[test]

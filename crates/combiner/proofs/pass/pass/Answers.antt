@@ -1,23 +1,46 @@
-use Rattle.std.proofs.Common.{rules, arith, ◌≡◌, length, sym, subst}
+use Rattle.std.proofs.Common.{rules, arith, ◌≡◌, ℕ, length, refl, ap, sym, subst, ◌∙◌}
 use Rattle.call_history.specs.History.{Begins}
 use Rattle.combiner.specs.Passes.{IsBatch, HasServed}
+use Rattle.combiner.specs.Serving.{ServesBatch}
+use Rattle.combiner.proofs.Batches.{batch_pairs, pass_batch}
 use Rattle.combiner.proofs.PassSteps.{taking_batch, pass_serves}
 use Rattle.combiner.proofs.pass.pass.Goals as goal
 
-pub run_all-requires-clause-batch : goal.run_all-requires-clause-batch
-run_all-requires-clause-batch g c κs within =
+pub run_batch-ran-requires-clause-lawful : goal.run_batch-ran-requires-clause-lawful
+run_batch-ran-requires-clause-lawful g c κs within =
     let same : c.deref_mut-open.result.now.requests.items ≡ c.take_all.new.requests.items = search rules in
-    subst IsBatch (sym same) (taking_batch _ _ c.args.callers _ _ c.requires.callers.1 c.take_all.ensures.taken)
+    (subst (IsBatch c.args.callers) (sym same) (taking_batch _ _ c.args.callers _ _ c.requires.callers.1 c.take_all.ensures.taken)).lawful
+
+pub run_batch-ran-requires-clause-distinct : goal.run_batch-ran-requires-clause-distinct
+run_batch-ran-requires-clause-distinct g c κs within =
+    let same : c.deref_mut-open.result.now.requests.items ≡ c.take_all.new.requests.items = search rules in
+    batch_pairs _ (subst (IsBatch c.args.callers) (sym same) (taking_batch _ _ c.args.callers _ _ c.requires.callers.1 c.take_all.ensures.taken)).distinct
 
 pub returns-clause-served : goal.returns-clause-served
 returns-clause-served g c =
     let inside = c.in_ok-desk.ensures.inside in let size = c.requires.callers.0 in
     let count : c.len-count.result ≡ length c.take_all.new.requests.items = search rules in
     let line : c.deref_mut-open.result.now.book.history ≡ c.in_ok-desk.desk.value.book.history = search rules in
-    let now : c.deref-2.result.now.book.history ≡ c.run_all.new.book.history = search rules in
+    let now : c.deref-2.result.now.book.history ≡ c.run_batch-ran.new.book.history = search rules in
     let grows : Begins c.in_ok-desk.desk.value.book.history c.deref-2.result.now.book.history =
-    subst (λ l. Begins l c.deref-2.result.now.book.history) line (subst (Begins c.deref_mut-open.result.now.book.history) (sym now) c.run_all.ensures.fits.grows) in
+    subst (λ l. Begins l c.deref-2.result.now.book.history) line (subst (Begins c.deref_mut-open.result.now.book.history) (sym now) c.run_batch-ran.ensures.serves.fits.grows) in
     subst (HasServed c.args.seat.now c.step_unlock.new.seat) (sym count)
     (pass_serves c.args.callers c.args.seat.now c.step_lock.new.seat c.take_all.new.seat c.step_commit.new.seat c.answer_all.new.seat c.step_unlock.new.seat
     c.in_ok-desk.desk.value.book.history c.deref-2.result.now.book.history c.deref-2.result.now.outcomes.items c.take_all.new.requests.items c.take_all.new.numbers
     c.in_ok-desk.ensures.won c.take_all.ensures.taken grows c.step_commit.ensures.known c.answer_all.ensures.told c.step_unlock.ensures.known (omega arith) c.in_ok-desk.ensures.line.begins)
+
+pub returns-clause-batch : goal.returns-clause-batch
+returns-clause-batch g c =
+    let ran = c.run_batch-ran.ensures in
+    let inside = c.in_ok-desk.ensures.inside in let size = c.requires.callers.0 in
+    let batch = taking_batch _ _ c.args.callers _ _ c.requires.callers.1 c.take_all.ensures.taken in
+    let same : c.deref_mut-open.result.now.requests.items ≡ c.take_all.new.requests.items = search rules in
+    let taken : IsBatch c.args.callers c.deref_mut-open.result.now.requests.items = subst (IsBatch c.args.callers) (sym same) batch in
+    let count : c.len-count.result ≡ length c.take_all.new.requests.items = search rules in
+    let line : c.deref_mut-open.result.now.book.history ≡ c.in_ok-desk.desk.value.book.history = search rules in
+    let room : c.deref_mut-open.result.now.book.room ≡ c.args.seat.now.standing.room = search rules in
+    let seen : c.step_unlock.new.seat.standing.seen ≡ c.run_batch-ran.new.book.history = search rules in
+    subst (λ (z : ℕ). ServesBatch z c.args.callers c.args.seat.now.standing.seen c.step_unlock.new.seat.standing.seen c.len-count.result c.run_batch-ran.result.waves c.run_batch-ran.result.kernels) room
+    (pass_batch c.deref_mut-open.result.now.book.room c.args.callers c.len-count.result c.args.seat.now.standing.seen c.deref_mut-open.result.now.book.history c.run_batch-ran.new.book.history
+    c.step_unlock.new.seat.standing.seen c.deref_mut-open.result.now.requests.items c.run_batch-ran.new.outcomes.items c.run_batch-ran.result _ refl refl
+    (subst (Begins c.args.seat.now.standing.seen) (sym line) c.in_ok-desk.ensures.line.begins) seen (ap length same ∙ sym count) taken.distinct taken.inside ran.serves ran.waves ran.sure ran.bound ran.few_singles)
