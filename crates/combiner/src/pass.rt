@@ -82,6 +82,7 @@ pub(crate) fn pass(
     ensures batch { IfSome result (λ p. ServesBatch seat.old.standing.room callers
         seat.old.standing.seen seat.new.standing.seen p.0 p.1.waves p.1.kernels) }
     ensures few { IfSome result (λ p. p.0 ≤ callers) }
+    ensures few_waves { IfSome result (λ p. p.1.waves ≤ p.0) }
     ensures rests { IfSome result (λ _. Rests seat.new.standing) }
     ensures no_strangers { IfSome result (λ _. IsOfCallers (callers_of seat.new.standing.machine) seat.new.standing.seen) }
     ensures busy { IfNone result (MeetsAnother seat.old.standing seat.new.standing) }

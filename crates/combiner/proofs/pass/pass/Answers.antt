@@ -2,7 +2,7 @@ use Rattle.std.proofs.Common.{rules, arith, ◌≡◌, ℕ, length, refl, ap, sy
 use Rattle.call_history.specs.History.{Begins}
 use Rattle.combiner.specs.Passes.{IsBatch, HasServed}
 use Rattle.combiner.specs.Serving.{ServesBatch}
-use Rattle.combiner.proofs.Batches.{batch_pairs, pass_batch}
+use Rattle.combiner.proofs.Batches.{batch_pairs, few_waves, pass_batch}
 use Rattle.combiner.proofs.PassSteps.{taking_batch, pass_serves}
 use Rattle.combiner.proofs.pass.pass.Goals as goal
 
@@ -44,3 +44,6 @@ returns-clause-batch g c =
     (pass_batch c.deref_mut-open.result.now.book.room c.args.callers c.len-count.result c.args.seat.now.standing.seen c.deref_mut-open.result.now.book.history c.run_batch-ran.new.book.history
     c.step_unlock.new.seat.standing.seen c.deref_mut-open.result.now.requests.items c.run_batch-ran.new.outcomes.items c.run_batch-ran.result _ refl refl
     (subst (Begins c.args.seat.now.standing.seen) (sym line) c.in_ok-desk.ensures.line.begins) seen (ap length same ∙ sym count) taken.distinct taken.inside ran.serves ran.waves ran.sure ran.bound ran.few_singles)
+
+pub returns-clause-few_waves : goal.returns-clause-few_waves
+returns-clause-few_waves g c = few_waves (returns-clause-batch g c)
