@@ -25,6 +25,7 @@ use vector_memory::laws::memories_are_lawful;
 
 /// Finds the operands of a call and makes the checks of its shape in their order: what is left to be done, or the first
 /// fault of 1 to 8. Memory is taken only by the test of a permutation, in `smp_*`.
+#[inline(always)]
 pub fn judge<'a>(alloc: Global, memory: &'a Memory, call: &'a Call) -> Result<Judged<'a>, Stop>
     ensures gives { let task = task_of call.now in
         GivesBy (tests_index task.word) made result (work memory.now.limit task.word (operands_of memory.now task.arguments)) }

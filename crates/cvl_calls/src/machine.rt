@@ -37,6 +37,7 @@ pub fn work(
     Ok(run(execution, alloc, meter, judged)?)
 }
 
+#[inline(always)]
 fn store(memory: &mut Memory, to: Name, value: Value) -> Result<Reply, OutOfMemory>
     requires { FitsLimits memory.old.limit (content_of value) }
     ensures ok { IfOk result (λ reply. stored memory.old to (content_of value)
@@ -54,6 +55,7 @@ fn store(memory: &mut Memory, to: Name, value: Value) -> Result<Reply, OutOfMemo
 
 /// Stores at the target what a call made of its operands, takes the target away, or hands the reply on. The value is one
 /// that `work` makes, within the limit of the memory. A refused store is a fault, and it and a want of memory leave the memory as it was.
+#[inline(always)]
 pub fn apply(memory: &mut Memory, to: Option<Name>, product: Product) -> Result<Reply, OutOfMemory>
     requires { IsFittingEffect memory.old.limit (effect_of product) }
     ensures ok { IfOk result (λ reply. applied memory.old to (effect_of product)
