@@ -11,3 +11,4 @@ pub mod BatchLemmas
 pub mod JoinLemmas
 pub mod DifferentLemmas
 pub mod TurnLemmas
+pub mod CallerLemmas
