@@ -12,3 +12,4 @@ pub mod JoinLemmas
 pub mod DifferentLemmas
 pub mod TurnLemmas
 pub mod CallerLemmas
+pub mod AloneLemmas

@@ -5,6 +5,7 @@
 //! Computing, 1990).
 #![tactic(auto)]
 
+mod alone;
 mod joining;
 pub mod laws;
 mod plan;

@@ -13,6 +13,7 @@ ghost use Rattle.batch_flatten.specs.Counts.{RisesBy, kernel_bound, kernels_belo
 ghost use Rattle.batch_flatten.specs.Joining.{AreNoted};
 ghost use Rattle.batch_flatten.specs.Serving.{AnswersSure, AreApart, AreAskedBy, Serving, WereBack};
 
+use crate::alone::serve_alone;
 use crate::plan::BATCH_LIMIT;
 use crate::ran::Ran;
 use crate::roll::{Roll, open};
@@ -101,6 +102,9 @@ pub fn run_batch(
     ensures request_spaces { vec_capacity requests.new ≡ vec_capacity requests.old }
     ensures outcome_spaces { vec_capacity outcomes.new ≡ vec_capacity outcomes.old }
 {
+    if requests.len() < 2 {
+        return serve_alone(execution, alloc, book, requests, outcomes, meter);
+    }
     let count = requests.len();
     let roll = open(requests, outcomes);
     let Ok(()) = book.reserve(count) else {

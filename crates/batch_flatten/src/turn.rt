@@ -60,7 +60,7 @@ pub(crate) fn work_for(turn: Turn, works: &mut Vec<Option<Work>>, position: usiz
 }
 
 /// Runs a call behind the history, and says what became of it.
-fn run(
+pub(crate) fn run(
     execution: &impl Execution,
     alloc: Global,
     meter: &mut Meter,
