@@ -1,12 +1,15 @@
 //! The benchmark program. `bench kernels` times the kernels, and prints a line for each row:
 //! `kernels TAB row TAB cvl TAB nanoseconds an item`, where a row is a kernel and how many items it runs over.
-//! `bench shared` times threads that share a machine, as `shared.rt` says. Without arguments it prints its usage; so it
-//! does for other arguments, with status 2.
+//! `bench shared` times threads that share a machine, as `shared.rt` says. `bench batch` times batches, as `batch.rt` says, and
+//! how they are planned, as `plans.rt` says. Without arguments it prints its usage; so it does for other arguments, with
+//! status 2.
 #![tactic(auto)]
 
+mod batch;
 mod case;
 mod inputs;
 mod load;
+mod plans;
 mod runs;
 mod shared;
 mod timing;
@@ -19,7 +22,7 @@ use std::rt::Clock;
 use std::thread::Threads;
 use std::{env, io};
 
-const USAGE: &str = "usage: bench kernels|shared";
+const USAGE: &str = "usage: bench kernels|shared|batch";
 
 /// How many items the kernels run over.
 const SIZES: [u32; 4] = [1_000, 32_000, 1_000_000, 16_000_000];
@@ -46,6 +49,7 @@ enum Asked {
     Usage,
     Kernels,
     Shared,
+    Batch,
     Unknown,
 }
 
@@ -61,6 +65,7 @@ fn read_arguments(rt: &HostRuntime) -> io::Result<Asked> {
     match word.as_str() {
         "kernels" => Ok(Asked::Kernels),
         "shared" => Ok(Asked::Shared),
+        "batch" => Ok(Asked::Batch),
         _ => Ok(Asked::Unknown),
     }
 }
@@ -73,6 +78,11 @@ fn main(rt: HostRuntime) -> io::Result<ExitCode> {
         }
         Asked::Shared => {
             shared::rows(&rt, CALLS)?;
+            Ok(ExitCode::SUCCESS)
+        }
+        Asked::Batch => {
+            plans::rows(&rt)?;
+            batch::rows(&rt)?;
             Ok(ExitCode::SUCCESS)
         }
         Asked::Usage => {

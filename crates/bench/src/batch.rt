@@ -1,0 +1,252 @@
+//! The rows of batches: alike calls `xk = add_wuz a b` in one batch beside the same calls one by one, and planning alone.
+//! Both ways begin with the same list of requests, and each runs on a book of its own. They take turns, and of each the
+//! least time counts.
+
+ghost use Rattle.std.specs.Prelude.{◌≡◌, ◌≢◌, ◌<◌, ◌≤◌, [], length, vec_len, OnSome};
+ghost use Rattle.std.specs.List.{AllByRecursion, AllPairs};
+ghost use Rattle.call_history.specs.Callers.{caller_limit};
+
+use crate::load::{name, numbers};
+use batch_flatten::{BATCH_LIMIT, run_batch};
+use call_history::{Book, CALLER_LIMIT, Outcome, Request};
+use cvl_text::{Call, Z2};
+use scan_kernels::{Meter, Sequential};
+use std::alloc::Global;
+use std::io;
+use std::rt::Clock;
+use std::time::Instant;
+use vector_memory::Name;
+
+/// How many calls a batch has.
+const CALLS: [u32; 5] = [1, 2, 4, 16, 64];
+
+/// How many items the vectors have.
+const ITEMS: [u32; 5] = [2, 16, 256, 4096, 32_768];
+
+/// How many calls are timed together. Their history is short enough that the system hands out no memory for it meanwhile.
+const TIMED: u32 = 960;
+
+/// How many of them where vectors are long.
+const TIMED_LONG: u32 = 192;
+
+/// How many times each way is timed.
+const REPEATS: u32 = 60;
+
+/// The room of the books.
+const ROOM: u64 = 1 << 22;
+
+/// Which calls a batch has.
+#[derive(Clone, Copy)]
+enum Shape {
+    /// `xk = add_wuz a b`, each with a target of its own: one wave.
+    Alike,
+    /// `x = add_wuz x b`, each of which reads the target of all before it: as many waves as calls.
+    Chain,
+}
+
+/// The calls of a batch: their targets, and the two names that they read.
+#[derive(Drop)]
+struct Calls {
+    targets: Vec<Name>,
+    left: Name,
+    right: Name,
+    ghost few: { vec_len targets ≤ caller_limit },
+}
+
+/// What a way of serving calls keeps between its turns.
+#[derive(Drop)]
+struct Lists {
+    requests: Vec<Request>,
+    outcomes: Vec<Outcome>,
+    meter: Meter,
+}
+
+/// How calls are served.
+#[derive(Clone, Copy)]
+enum Way {
+    Batch,
+    OneByOne,
+}
+
+fn calls_of(alloc: Global, shape: Shape, count: u32) -> Option<Calls> {
+    let left = match shape {
+        Shape::Alike => name(b'a', 0)?,
+        Shape::Chain => name(b'x', 0)?,
+    };
+    let mut targets = Vec::new(alloc);
+    for k in 0..count {
+        let target = match shape {
+            Shape::Alike => name(b'x', u64::from(k))?,
+            Shape::Chain => left,
+        };
+        targets.push(target).ok()?;
+    }
+    if targets.len() > CALLER_LIMIT {
+        return None;
+    }
+    Some(Calls {
+        targets,
+        left,
+        right: name(b'b', 0)?,
+    })
+}
+
+fn set(book: &mut Book, alloc: Global, to: Name, items: Vec<i64>) -> Option<()> {
+    let call = Call::SetInts { to, items };
+    book.run(&Sequential, alloc, 0, call).ok()?;
+    Some(())
+}
+
+/// A book in which the names of the calls have values, with space for so many entries more.
+fn book_of(alloc: Global, calls: &Calls, items: u32, space: u32) -> Option<Book> {
+    let mut book = Book::new(alloc, ROOM).ok()?;
+    set(&mut book, alloc, calls.left, numbers(alloc, items, 0, 7)?)?;
+    set(&mut book, alloc, calls.right, numbers(alloc, items, 1, 3)?)?;
+    for to in &calls.targets {
+        set(&mut book, alloc, *to, numbers(alloc, items, 0, 0)?)?;
+    }
+    book.reserve(space as usize).ok()?;
+    Some(book)
+}
+
+/// The requests of the calls, of a caller each.
+fn ask(requests: &mut Vec<Request>, calls: &Calls) -> Option<()>
+    ensures few { OnSome result (vec_len requests.new ≤ BATCH_LIMIT) }
+    ensures lawful { OnSome result (AllByRecursion (λ r. r.caller < caller_limit) requests.new.items) }
+    ensures distinct { OnSome result (AllPairs (λ r s. r.caller ≢ s.caller) requests.new.items) }
+{
+    requests.clear();
+    for k in 0..calls.targets.len() {
+        let call = Call::MapZ2 {
+            to: calls.targets[k],
+            op: Z2::Add,
+            a: calls.left,
+            b: calls.right,
+        };
+        let caller = k as u64;
+        let request = Request { caller, call };
+        let Ok(()) = requests.push(request) else {
+            return None;
+        };
+    }
+    Some(())
+}
+
+/// Serves the requests one by one, from the last to the first.
+fn serve_each(alloc: Global, book: &mut Book, lists: &mut Lists) -> Option<()> {
+    while let Some(request) = lists.requests.pop() {
+        let Request { caller, call } = request;
+        if caller >= CALLER_LIMIT as u64 {
+            return None;
+        }
+        let Ok(_) = book.run_metered(&Sequential, alloc, &mut lists.meter, caller, call) else {
+            return None;
+        };
+    }
+    Some(())
+}
+
+/// Serves the calls once.
+fn serve(alloc: Global, book: &mut Book, calls: &Calls, way: Way, lists: &mut Lists) -> Option<()> {
+    ask(&mut lists.requests, calls)?;
+    match way {
+        Way::Batch => {
+            lists.outcomes.clear();
+            lists.outcomes.reserve(lists.requests.len()).ok()?;
+            run_batch(
+                &Sequential,
+                alloc,
+                book,
+                &mut lists.requests,
+                &mut lists.outcomes,
+                &mut lists.meter,
+            );
+        }
+        Way::OneByOne => serve_each(alloc, book, lists)?,
+    }
+    Some(())
+}
+
+/// The time of so many rounds of the calls, in nanoseconds, on a book of their own; four seconds where it is longer.
+fn time(
+    rt: &impl Clock,
+    alloc: Global,
+    calls: &Calls,
+    items: u32,
+    rounds: u32,
+    way: Way,
+    lists: &mut Lists,
+) -> Option<u32> {
+    let space = rounds.saturating_add(1).saturating_mul(BATCH_LIMIT as u32);
+    let mut book = book_of(alloc, calls, items, space)?;
+    serve(alloc, &mut book, calls, way, lists)?;
+    let start = Instant::now(rt).ok()?;
+    for _ in 0..rounds {
+        serve(alloc, &mut book, calls, way, lists)?;
+    }
+    let taken = start.elapsed(rt).ok()?;
+    Some(u32::try_from(taken.as_nanos()).unwrap_or(u32::MAX))
+}
+
+/// The least times of one call in a batch of so many and by itself, in nanoseconds.
+fn least(
+    rt: &impl Clock,
+    alloc: Global,
+    shape: Shape,
+    count: u32,
+    items: u32,
+) -> Option<(f64, f64)> {
+    let calls = calls_of(alloc, shape, count)?;
+    let mut lists = Lists {
+        requests: Vec::new(alloc),
+        outcomes: Vec::new(alloc),
+        meter: Meter::new(),
+    };
+    let timed = if items > 10_000 { TIMED_LONG } else { TIMED };
+    let rounds = timed / count.max(1);
+    let (mut batch, mut one_by_one) = (u32::MAX, u32::MAX);
+    for _ in 0..REPEATS {
+        batch = batch.min(time(rt, alloc, &calls, items, rounds, Way::Batch, &mut lists)?);
+        one_by_one = one_by_one.min(time(
+            rt,
+            alloc,
+            &calls,
+            items,
+            rounds,
+            Way::OneByOne,
+            &mut lists,
+        )?);
+    }
+    let all = f64::from(rounds) * f64::from(count);
+    Some((f64::from(batch) / all, f64::from(one_by_one) / all))
+}
+
+/// Prints `what TAB n=calls len=items TAB cvl TAB nanoseconds a call in a batch TAB by itself TAB their ratio`.
+fn row<R: Alloc<A = Global> + Clock + Print>(
+    rt: &R,
+    what: &str,
+    shape: Shape,
+    count: u32,
+    items: u32,
+) -> io::Result<()> {
+    if let Some((batch, one_by_one)) = least(rt, rt.alloc(), shape, count, items) {
+        let ratio = batch / one_by_one;
+        println!(rt;
+            "{what}\tn={count} len={items}\tcvl\t{batch:.1}\t{one_by_one:.1}\t{ratio:.3}"
+        )?;
+    }
+    Ok(())
+}
+
+/// All rows of batches.
+pub fn rows<R: Alloc<A = Global> + Clock + Print>(rt: &R) -> io::Result<()> {
+    for items in ITEMS {
+        for count in CALLS {
+            row(rt, "batch", Shape::Alike, count, items)?;
+        }
+    }
+    for count in [2, 64] {
+        row(rt, "chain", Shape::Chain, count, 2)?;
+    }
+    Ok(())
+}
