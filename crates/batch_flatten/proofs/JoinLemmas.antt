@@ -1,6 +1,6 @@
--- Calls of a wave that are joined: positions that close (`closed-more`), and a group that grows (`group-pushed`).
-use Rattle.std.proofs.Common.{◌≡◌, ◌≢◌, ◌⊎◌, ⊎_elim, inl, inr, ℕ, zero, suc, ◌+◌, ◌<◌, ◌≤◌, All, Bool, true, false, cond, List, [], ◌∷◌, ◌++◌, length, map, take, Option, Some, None, Result, Ok, refl, sym, ap, ◌∙◌, subst, arith, slice_get, slice_index, set}
-use Rattle.std.proofs.lemmas.List.{get_or_append_left, get_or_push, length-map, length_push, map_push, same_from_push, take-set, take_more, take_more_set}
+-- Calls of a wave that are joined: positions that close (`closed-more`), and a group that grows (`group-push`).
+use Rattle.std.proofs.Common.{◌≡◌, ◌≢◌, ◌⊎◌, ⊎_elim, inl, inr, ℕ, zero, suc, ◌+◌, ◌<◌, ◌≤◌, All, Bool, true, List, [], ◌∷◌, ◌++◌, length, map, take, Option, Some, None, Result, Ok, refl, sym, ap, ◌∙◌, subst, arith, slice_get, slice_index, set}
+use Rattle.std.proofs.lemmas.List.{get_or_append_left, get_or_push, length-map, length_push, map_push, same_from_push, take_more, take_more_set}
 use Rattle.std.proofs.lemmas.List.Elements.{All-push}
 use Rattle.std.proofs.lemmas.Simd.{map-map}
 use mathlib.Core.Logic.{dite}
@@ -28,25 +28,14 @@ closed-more words word turns from to none closed b low high same is_open = dite 
     (λ other. closed b low (omega arith) same is_open)
 
 module _ (m : State) (outcomes : List Outcome) (places : List ℕ) (words : List Word) (word : Word) (positions : List ℕ) (judged : List Judged) (n p : ℕ) (here : n ≡ length judged) (g : IsGroup m outcomes places words word positions judged) where
-  front : take (length judged) (set positions n p) ≡ take (length judged) positions
-  front = ap (λ k. take (length judged) (set positions k p)) here ∙ take-set positions (length judged) p
-
-  -- a position past the last does not count
-  group-kept : IsGroup m outcomes places words word (set positions n p) judged
-  group-kept = record {
-    works = g.works ∙ ap (map (work_at m outcomes places)) (sym front);
-    ready = g.ready;
-    alike = g.alike;
-    placed = subst (All (λ b. word_at words b ≡ word)) (sym front) g.placed;
-  }
-
-  group-push : (j : Judged) (outcome : Outcome) → n < length positions → slice_get outcomes (slice_index places p) ≡ Some outcome → work_back m (Some outcome) ≡ Ok (made j) → IsReady j → word_of j ≡ word → word_at words p ≡ word
-      → IsGroup m outcomes places words word (set positions n p) (judged ++ j ∷ [])
-  group-push j outcome room there said ready same its =
+  -- one more judged call
+  pub group-push : (j : Judged) (after : List Judged) (outcome : Outcome) → after ≡ judged ++ j ∷ [] → n < length positions → slice_get outcomes (slice_index places p) ≡ Some outcome → work_back m (Some outcome) ≡ Ok (made j) → IsReady j → word_of j ≡ word → word_at words p ≡ word
+      → IsGroup m outcomes places words word (set positions n p) after
+  group-push j after outcome is room there said ready same its =
       let long : length (judged ++ j ∷ []) ≡ n + 1 = length_push judged j ∙ ap (λ k. k + 1) (sym here) in
       let all : take (length (judged ++ j ∷ [])) (set positions n p) ≡ take (length judged) positions ++ p ∷ [] =
       ap (λ k. take k (set positions n p)) long ∙ take_more_set positions n p room ∙ ap (λ k. take k positions ++ p ∷ []) here in
-      record {
+      subst (IsGroup m outcomes places words word (set positions n p)) (sym is) (record {
         works = map_push (λ i. Ok (made i)) judged j
             ∙ ap (λ l. l ++ Ok (made j) ∷ []) g.works
             ∙ ap (λ w. map (work_at m outcomes places) (take (length judged) positions) ++ w ∷ []) (sym (ap (work_back m) there ∙ said))
@@ -55,13 +44,7 @@ module _ (m : State) (outcomes : List Outcome) (places : List ℕ) (words : List
         ready = All-push IsReady judged j g.ready ready;
         alike = All-push (λ i. word_of i ≡ word) judged j g.alike same;
         placed = subst (All (λ b. word_at words b ≡ word)) (sym all) (All-push (λ b. word_at words b ≡ word) (take (length judged) positions) p g.placed its);
-      }
-
-  -- one more judged call, if there was memory for it
-  pub group-pushed : (pushed : Bool) (j : Judged) (after : List Judged) (outcome : Outcome) → after ≡ cond pushed (judged ++ j ∷ []) judged → n < length positions → slice_get outcomes (slice_index places p) ≡ Some outcome
-      → work_back m (Some outcome) ≡ Ok (made j) → IsReady j → word_of j ≡ word → word_at words p ≡ word → IsGroup m outcomes places words word (set positions n p) after
-  group-pushed true j after outcome is room there said ready same its = subst (IsGroup m outcomes places words word (set positions n p)) (sym is) (group-push j outcome room there said ready same its)
-  group-pushed false j after outcome is room there said ready same its = subst (IsGroup m outcomes places words word (set positions n p)) (sym is) group-kept
+      })
 
 pub group-none : (m : State) (outcomes : List Outcome) (places : List ℕ) (words : List Word) (word : Word) (positions : List ℕ) (judged : List Judged) → judged ≡ [] → IsGroup m outcomes places words word positions judged
 group-none m outcomes places words word positions judged is = subst (IsGroup m outcomes places words word positions) (sym is) (record {

@@ -136,8 +136,13 @@ fn add<'a>(
     match judge_back(alloc, memory, outcome) {
         Ok(judged) => {
             turns[position] = Turn::Single;
-            group.positions[group.judged.len()] = position as u8;
-            group.lacks |= group.judged.push(judged).is_err();
+            let count = group.judged.len();
+            if count < group.judged.capacity() {
+                group.positions[count] = position as u8;
+                group.judged.push_reserved(judged);
+            } else {
+                group.lacks = true;
+            }
         }
         Err(Stop::Fault(fault)) => turns[position] = Turn::Faulty(fault),
         Err(Stop::OutOfMemory) => {
@@ -280,6 +285,7 @@ fn put_all(
 fn make_space(works: &mut Vec<Option<Work>>, count: usize) -> Result<(), OutOfMemory>
     ensures { (b : ℕ) (slot : Option Work) → slice_get works.old.items b ≡ Some slot → slice_get works.new.items b ≡ Some slot }
 {
+    works.reserve(count.saturating_sub(works.len()))?;
     for _ in works.len()..count {
         works.push(None)?;
     }
