@@ -292,7 +292,8 @@ fn make_space(works: &mut Vec<Option<Work>>, count: usize) -> Result<(), OutOfMe
     Ok(())
 }
 
-/// Joins the open calls of one word, from a position on. Where memory is wanted, they are to run by themselves.
+/// Joins the open calls of one word, from a position on. Where memory is wanted, they are to run by themselves. Where each has
+/// a fault no kernel runs.
 fn lead(
     execution: &impl Execution,
     alloc: Global,
@@ -318,7 +319,7 @@ fn lead(
     ensures counted { (meter.new ≡ meter.old) ⊎ (meter.new ≡ raised meter.old) }
 {
     let group = gather(alloc, memory, places, words, outcomes, first, turns);
-    if group.lacks {
+    if group.lacks || group.judged.is_empty() {
         return;
     }
     let Ok(()) = make_space(works, places.len()) else {

@@ -1,5 +1,6 @@
 //! Calls of one word by several callers, beside the same calls one by one: all words that run a kernel join.
 
+use crate::Ran;
 use crate::tests::alone::come_to_the_same;
 use crate::tests::asking::book_of;
 use crate::tests::table::{CALLS, OPERANDS, write_call};
@@ -30,12 +31,12 @@ fn alike(alloc: Global, call: &str, callers: usize, sets: &[char; 4]) -> Result<
     Ok(lines)
 }
 
-/// Whether the call of the table runs a kernel.
-fn needs_kernel(alloc: Global, call: &str) -> Result<bool, Fail> {
+/// How many kernels the call of the table runs.
+fn kernels_of(alloc: Global, call: &str) -> Result<u64, Fail> {
     let mut line = String::new(alloc);
     write_call(&mut line, call, "x", '0')?;
     let call = Call::read(alloc, line.trim_end().as_bytes())?;
-    Ok(runs_kernel(call_word(&call)))
+    Ok(u64::from(runs_kernel(call_word(&call))))
 }
 
 /// Asserts of a call of the table that so many callers of it are served in one wave, by one kernel or none, and that they
@@ -52,15 +53,19 @@ fn joins(
     let mut other = book_of(alloc, ROOM_LIMIT, before)?;
     let lines = alike(alloc, call, callers, sets)?;
     let ran = come_to_the_same(rt, alloc, &mut one, &mut other, &lines)?;
-    let kernels: u64 = if needs_kernel(alloc, call)? { 1 } else { 0 };
-    assert!(rt; ran.waves == 1 && ran.kernels == kernels, "{call}");
+    let wanted = Ran {
+        waves: 1,
+        kernels: kernels_of(alloc, call)?,
+        singles: 0,
+    };
+    assert!(rt; ran == wanted, "{call}");
     Ok(())
 }
 
 /// Asserts of each call of the table that so many callers of it join.
 fn all_join(rt: &impl Abort, alloc: Global, callers: usize, sets: &[char; 4]) -> Result<(), Fail> {
     let before = before(alloc)?;
-    for call in CALLS {
+    for call in CALLS.as_slice() {
         joins(rt, alloc, &before, call, callers, sets)?;
     }
     Ok(())
