@@ -1,17 +1,44 @@
 //! A batch of one request, or of none: nothing is planned, noted or joined, and no list is made.
 
-ghost use Rattle.std.specs.Prelude.{◌≡◌, ◌⊎◌, ◌+◌, ◌<◌, ◌≤◌, [], length, map, vec_len, vec_capacity};
+ghost use Rattle.std.specs.Prelude.{◌≡◌, ◌⊎◌, ◌+◌, ◌<◌, ◌≤◌, ◌∷◌, ◌++◌, [], length, map, vec_len, vec_capacity};
 ghost use Rattle.std.specs.List.{AllByRecursion};
+ghost use Rattle.cvl_text.specs.Tasks.{task_of};
+ghost use Rattle.cvl_calls.specs.Runs.{TakesNoMemory, runs_kernel};
+ghost use Rattle.call_history.specs.declared.request.Outcome.{Outcome};
 ghost use Rattle.call_history.specs.Callers.{caller_limit};
 ghost use Rattle.call_history.specs.Fits.{returned};
-ghost use Rattle.batch_flatten.specs.Batches.{AnswersAllSure, ServesInOrder};
-ghost use Rattle.batch_flatten.specs.Counts.{kernel_bound, wave_count};
+ghost use Rattle.batch_flatten.specs.Batches.{AnswersAllSure, IsAnswered, Runs, ServesInOrder};
+ghost use Rattle.batch_flatten.specs.Counts.{RisesBy, kernel_bound, kernels_of, wave_count};
 
 use crate::ran::Ran;
-use crate::turn::run;
 use call_history::{Book, Outcome, Request};
+use cvl_text::Call;
 use scan_kernels::{Execution, Meter};
 use std::alloc::Global;
+
+/// Runs a call behind the history, and puts what became of it behind the outcomes. It is written where it stays.
+fn run_onto(
+    execution: &impl Execution,
+    alloc: Global,
+    meter: &mut Meter,
+    book: &mut Book,
+    caller: u64,
+    call: Call,
+    outcomes: &mut Vec<Outcome>,
+)
+    requires caller { caller < caller_limit }
+    requires space { 0 < book.old.spaces }
+    requires room { vec_len outcomes.old < vec_capacity outcomes.old }
+    ensures ran { (outcome : Outcome) × (outcomes.new.items ≡ outcomes.old.items ++ outcome ∷ [])
+        × (TakesNoMemory (task_of call).word → IsAnswered outcome) × Runs book.old book.new caller call outcome }
+    ensures counted { RisesBy (kernels_of (runs_kernel (task_of call).word)) meter.old meter.new }
+    ensures spaces { vec_capacity outcomes.new ≡ vec_capacity outcomes.old }
+{
+    match book.run_metered(execution, alloc, meter, caller, call) {
+        Ok((place, reply)) => outcomes.push_reserved(Outcome::Answered { place, reply }),
+        Err((call, _)) => outcomes.push_reserved(Outcome::Refused(call)),
+    }
+}
 
 /// Serves a batch of fewer than two requests. Where the history cannot be reserved, the call comes back and nothing changes.
 pub(crate) fn serve_alone(
@@ -47,8 +74,7 @@ pub(crate) fn serve_alone(
         return Ran::NOTHING;
     };
     let before = meter.runs();
-    let outcome = run(execution, alloc, meter, book, caller, call);
-    outcomes.push_reserved(outcome);
+    run_onto(execution, alloc, meter, book, caller, call, outcomes);
     Ran {
         waves: 1,
         kernels: meter.runs() - before,

@@ -59,40 +59,41 @@ pub(crate) fn work_for(turn: Turn, works: &mut Vec<Option<Work>>, position: usiz
     }
 }
 
-/// Runs a call behind the history, and says what became of it.
-pub(crate) fn run(
+/// Runs a call behind the history. What became of it is written where it stays.
+fn run(
     execution: &impl Execution,
     alloc: Global,
     meter: &mut Meter,
     book: &mut Book,
     caller: u64,
     call: Call,
-) -> Outcome
+    outcome: &mut Outcome,
+)
     requires caller { caller < caller_limit }
     requires space { 0 < book.old.spaces }
-    ensures ran { Runs book.old book.new caller call result }
+    ensures ran { Runs book.old book.new caller call outcome.new }
     ensures memory { StepsOrStays (memory_of book.old) (memory_of book.new) (task_of call) }
-    ensures sure { TakesNoMemory (task_of call).word → IsAnswered result }
+    ensures sure { TakesNoMemory (task_of call).word → IsAnswered outcome.new }
     ensures spaces { book.old.spaces ≤ book.new.spaces + 1 }
     ensures counted { RisesBy (kernels_of (runs_kernel (task_of call).word)) meter.old meter.new }
 {
     match book.run_metered(execution, alloc, meter, caller, call) {
-        Ok((place, reply)) => Outcome::Answered { place, reply },
-        Err((call, _)) => Outcome::Refused(call),
+        Ok((place, reply)) => *outcome = Outcome::Answered { place, reply },
+        Err((call, _)) => *outcome = Outcome::Refused(call),
     }
 }
 
-/// Runs a call whose work was done before.
-fn run_ready(book: &mut Book, caller: u64, call: Call, work: Work) -> Outcome
+/// Runs a call whose work was done before. What became of it is written where it stays.
+fn run_ready(book: &mut Book, caller: u64, call: Call, work: Work, outcome: &mut Outcome)
     requires caller { caller < caller_limit }
     requires work { IsWork work (work_on (memory_of book.old) (task_of call)) }
-    ensures ran { Runs book.old book.new caller call result }
+    ensures ran { Runs book.old book.new caller call outcome.new }
     ensures memory { StepsOrStays (memory_of book.old) (memory_of book.new) (task_of call) }
     ensures spaces { book.old.spaces ≤ book.new.spaces + 1 }
 {
     match book.run_with(caller, call, work) {
-        Ok((place, reply)) => Outcome::Answered { place, reply },
-        Err((call, _)) => Outcome::Refused(call),
+        Ok((place, reply)) => *outcome = Outcome::Answered { place, reply },
+        Err((call, _)) => *outcome = Outcome::Refused(call),
     }
 }
 
@@ -120,11 +121,11 @@ pub(crate) fn run_back(
         reply: Reply::Done,
     };
     let was = mem::replace(outcome, nothing);
-    *outcome = match was {
+    match was {
         Outcome::Refused(call) => match work {
-            Some(work) => run_ready(book, caller, call, work),
-            None => run(execution, alloc, meter, book, caller, call),
+            Some(work) => run_ready(book, caller, call, work, outcome),
+            None => run(execution, alloc, meter, book, caller, call, outcome),
         },
-        Outcome::Answered { place, reply } => Outcome::Answered { place, reply },
-    };
+        Outcome::Answered { place, reply } => *outcome = Outcome::Answered { place, reply },
+    }
 }
