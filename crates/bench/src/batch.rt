@@ -30,7 +30,10 @@ const TIMED: u32 = 960;
 const TIMED_LONG: u32 = 192;
 
 /// How many times each way is timed.
-const REPEATS: u32 = 60;
+const REPEATS: u32 = 400;
+
+/// How many times where a time is long.
+const REPEATS_LONG: u32 = 60;
 
 /// The room of the books.
 const ROOM: u64 = 1 << 22;
@@ -203,9 +206,10 @@ fn least(
         meter: Meter::new(),
     };
     let timed = if items > 10_000 { TIMED_LONG } else { TIMED };
+    let repeats = if items > 1_000 { REPEATS_LONG } else { REPEATS };
     let rounds = timed / count.max(1);
     let (mut batch, mut one_by_one) = (u32::MAX, u32::MAX);
-    for _ in 0..REPEATS {
+    for _ in 0..repeats {
         batch = batch.min(time(rt, alloc, &calls, items, rounds, Way::Batch, &mut lists)?);
         one_by_one = one_by_one.min(time(
             rt,
