@@ -3,7 +3,6 @@
 use crate::tests::asking::{Served, batch_of, memory_of, serve};
 use crate::{BATCH_LIMIT, Ran, waves};
 use call_history::{Book, CALLER_LIMIT, Outcome};
-use cvl_calls::runs_kernel;
 use cvl_text::{Call, Reply, Word, call_word};
 use scan_kernels::{Meter, Sequential};
 use std::alloc::Global;
@@ -81,16 +80,8 @@ impl Words {
     }
 }
 
-/// How many kernels a batch may run, where all that may be joined is joined.
-#[derive(Clone, Copy)]
-struct Kernels {
-    /// In each wave one for each word of which a call runs a kernel by itself.
-    least: u64,
-    /// In each wave one for each word that runs kernels.
-    most: u64,
-}
-
-/// Runs the calls of a wave by themselves, and asserts that the outcomes are their answers.
+/// Runs the calls of a wave by themselves, and asserts that the outcomes are their answers. How many words there are of which
+/// a call runs a kernel.
 fn run_wave(
     rt: &impl Abort,
     alloc: Global,
@@ -99,8 +90,8 @@ fn run_wave(
     planned: &[u8; BATCH_LIMIT],
     wave: u64,
     outcomes: &[Outcome],
-) -> Result<Kernels, Fail> {
-    let (mut ran, mut of_kernels) = (Words::new(alloc), Words::new(alloc));
+) -> Result<u64, Fail> {
+    let mut words = Words::new(alloc);
     for ((i, line), its) in lines.lines().enumerate().zip(planned.iter()) {
         if u64::from(*its) != wave {
             continue;
@@ -109,32 +100,28 @@ fn run_wave(
         let word = call_word(&call);
         let (same, kernel) = run_line(alloc, book, i as u64, call, outcomes.get(i))?;
         assert!(rt; same, "{line} in\n{lines}");
-        ran.note(word, kernel)?;
-        of_kernels.note(word, runs_kernel(word))?;
+        words.note(word, kernel)?;
     }
-    Ok(Kernels {
-        least: ran.len(),
-        most: of_kernels.len(),
-    })
+    Ok(words.len())
 }
 
-/// Runs the calls of a batch by themselves, wave after wave, and asserts that the outcomes are their answers.
+/// Runs the calls of a batch by themselves, wave after wave, and asserts that the outcomes are their answers. How many kernels
+/// the batch is to run.
 fn run_alone(
     rt: &impl Abort,
     alloc: Global,
     book: &mut Book,
     lines: &str,
     served: &Served,
-) -> Result<Kernels, Fail> {
+) -> Result<u64, Fail> {
     let requests = batch_of(alloc, lines)?;
     let planned = waves(&requests);
-    let (mut least, mut most): (u64, u64) = (0, 0);
+    let mut kernels: u64 = 0;
     for wave in 0..served.ran.waves {
         let more = run_wave(rt, alloc, book, lines, &planned, wave, &served.outcomes)?;
-        least = least.saturating_add(more.least);
-        most = most.saturating_add(more.most);
+        kernels = kernels.saturating_add(more);
     }
-    Ok(Kernels { least, most })
+    Ok(kernels)
 }
 
 /// Whether two histories have entries of the same callers, with the same tickets.
@@ -163,8 +150,7 @@ pub(crate) fn come_to_the_same(
     let served = serve(alloc, one, lines)?;
     let kernels = run_alone(rt, alloc, other, lines, &served)?;
     assert!(rt; served.ran.singles == 0, "{lines}");
-    let ran = served.ran.kernels;
-    assert!(rt; kernels.least <= ran && ran <= kernels.most, "{lines}");
+    assert!(rt; served.ran.kernels == kernels, "{lines}");
     assert!(rt; is_same_order(one, other), "{lines}");
     let (left, wanted) = (memory_of(alloc, one)?, memory_of(alloc, other)?);
     assert!(rt; left.as_slice() == wanted.as_slice(), "{lines}");

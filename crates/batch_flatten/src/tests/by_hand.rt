@@ -45,6 +45,21 @@ fn an_earlier_reader_sees_the_old_value(rt: HostRuntime) -> Result<(), Fail> {
     comes_about(&rt, rt.alloc(), &case)
 }
 
+/// Where each call of a word has a fault there is nothing to run.
+#[test]
+fn faults_alone_run_no_kernel(rt: HostRuntime) -> Result<(), Fail> {
+    let case = Case {
+        room: 1000,
+        before: "a = z 1\nz = z 0",
+        calls: "x = div_wuz a z\ny = div_wuz a z",
+        waves: 1,
+        kernels: 0,
+        answers: "2 fault 6\n3 fault 6\n",
+        after: "a z 1\nz z 0\n",
+    };
+    comes_about(&rt, rt.alloc(), &case)
+}
+
 #[test]
 fn a_fault_stays_with_its_call(rt: HostRuntime) -> Result<(), Fail> {
     let case = Case {
