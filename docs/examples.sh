@@ -1,7 +1,8 @@
 #!/bin/sh
 # docs/examples.sh check|write
 # The examples in PROFILE.md's tables of calls and in ERRORS.md, as the scripts that worked_examples runs. 'write' makes
-# the scripts anew, 'check' says which of them are not what the tables have; status 1: some are not.
+# the scripts anew, 'check' says which of them are not what the tables have; status 1: some are not. 'check' also compares the
+# call words that ARCHITECTURE.md says are joined with those that a test of batch_flatten sees joined.
 case "$1" in
     check | write) ;;
     *) echo "usage: docs/examples.sh check|write" >&2; exit 2 ;;
@@ -65,6 +66,26 @@ errors() {
 }
 
 calls "" > "$made/calls.cvl" && calls 1 > "$made/calls.out" && errors > "$made/errors.txt" || exit 1
+# Each call word of the table in ARCHITECTURE.md, and whether its calls are joined.
+told_joined() {
+    awk -F'|' '
+    /^##/ { on = /^### Which call words are joined/ }
+    on && $2 ~ /`/ {
+        count = split($2, parts, "`")
+        for (n = 2; n <= count; n += 2) print parts[n], $3 ~ /^ none/ ? "alone" : "joined"
+    }' ARCHITECTURE.md | sort
+}
+
+# The same of the test's table, whose first calls run no kernel.
+seen_joined() {
+    awk '
+    /const ALONE/ { alone = $NF + 0 }
+    /const CALLS/ { on = 1; next }
+    /^];/ { on = 0 }
+    on { match($0, /[a-z][a-z][a-z]_[a-z][a-z][a-z]|get/); print substr($0, RSTART, RLENGTH), ++count <= alone ? "alone" : "joined" }
+    ' ../crates/batch_flatten/src/tests/table.rt | sort
+}
+
 status=0
 for name in calls.cvl calls.out errors.txt; do
     if [ "$1" = write ]; then
@@ -74,4 +95,9 @@ for name in calls.cvl calls.out errors.txt; do
         status=1
     fi
 done
+told_joined > "$made/told.txt" && seen_joined > "$made/seen.txt" || exit 1
+if ! cmp -s "$made/told.txt" "$made/seen.txt" || [ ! -s "$made/told.txt" ]; then
+    echo "the call words that ARCHITECTURE.md says are joined are not those of crates/batch_flatten/src/tests/table.rt" >&2
+    status=1
+fi
 exit $status

@@ -3,9 +3,7 @@
 use crate::Ran;
 use crate::tests::alone::come_to_the_same;
 use crate::tests::asking::book_of;
-use crate::tests::table::{CALLS, OPERANDS, write_call};
-use cvl_calls::runs_kernel;
-use cvl_text::{Call, call_word};
+use crate::tests::table::{ALONE, CALLS, OPERANDS, write_call};
 use std::alloc::Global;
 use std::process::Abort;
 use std::test::Fail;
@@ -31,21 +29,14 @@ fn alike(alloc: Global, call: &str, callers: usize, sets: &[char; 4]) -> Result<
     Ok(lines)
 }
 
-/// How many kernels the call of the table runs.
-fn kernels_of(alloc: Global, call: &str) -> Result<u64, Fail> {
-    let mut line = String::new(alloc);
-    write_call(&mut line, call, "x", '0')?;
-    let call = Call::read(alloc, line.trim_end().as_bytes())?;
-    Ok(u64::from(runs_kernel(call_word(&call))))
-}
-
-/// Asserts of a call of the table that so many callers of it are served in one wave, by one kernel or none, and that they
-/// come to the same as one by one.
+/// Asserts of a call of the table that so many callers of it are served in one wave, by so many kernel runs, and that they come
+/// to the same as one by one.
 fn joins(
     rt: &impl Abort,
     alloc: Global,
     before: &str,
     call: &str,
+    kernels: u64,
     callers: usize,
     sets: &[char; 4],
 ) -> Result<(), Fail> {
@@ -55,18 +46,19 @@ fn joins(
     let ran = come_to_the_same(rt, alloc, &mut one, &mut other, &lines)?;
     let wanted = Ran {
         waves: 1,
-        kernels: kernels_of(alloc, call)?,
+        kernels,
         singles: 0,
     };
     assert!(rt; ran == wanted, "{call}");
     Ok(())
 }
 
-/// Asserts of each call of the table that so many callers of it join.
+/// Asserts of each call of the table that so many callers of it join, where it runs a kernel.
 fn all_join(rt: &impl Abort, alloc: Global, callers: usize, sets: &[char; 4]) -> Result<(), Fail> {
     let before = before(alloc)?;
-    for call in CALLS.as_slice() {
-        joins(rt, alloc, &before, call, callers, sets)?;
+    for (place, call) in CALLS.iter().enumerate() {
+        let kernels = u64::from(place >= ALONE);
+        joins(rt, alloc, &before, call, kernels, callers, sets)?;
     }
     Ok(())
 }

@@ -5,6 +5,9 @@ use cvl_text::{Call, Word, call_word};
 use std::alloc::Global;
 use std::test::Fail;
 
+/// How many of the calls run no kernel: the first ones.
+pub(crate) const ALONE: usize = 9;
+
 /// A call of each word. For `@` its target stands, and for `?` the number of a set of operands.
 pub(crate) const CALLS: [&str; 97] = [
     "get a?",
