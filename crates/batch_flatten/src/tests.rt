@@ -9,4 +9,5 @@ mod full;
 mod numbers;
 mod plans;
 mod random;
+mod refused;
 mod table;
