@@ -2,11 +2,12 @@
 # refused/run.sh: has each growth that a batch asks for refused in turn, and says what came of it.
 # It runs the tests of batch_flatten's file refused.rs that `rt test` or `./test` built, once for each growth. A test fails where a
 # refused growth comes to more than one call, but for a history that could not be reserved. The first batch must also be served once
-# with a joined run refused and both calls answered. Status 1: something was not so; 2: the tests are not built.
+# with a joined run refused and both calls answered. Status 1: something was not so; 2: the tests are not built; 3: nothing was
+# tried, since there is no cc.
 cd "$(dirname "$0")/.." || exit 1
 tests=$PWD/crates/batch_flatten/out/batch_flatten_tests
 [ -x "$tests" ] || { echo "refused: $tests is not built" >&2; exit 2; }
-command -v cc > /dev/null || { echo "refused: not run, since there is no cc"; exit 0; }
+command -v cc > /dev/null || { echo "refused: not run, since there is no cc"; exit 3; }
 made=$(mktemp -d) || exit 1
 trap 'rm -rf "$made"' EXIT
 cc -shared -fPIC -O1 -o "$made/refuse.so" refused/refuse.c -ldl || exit 1
@@ -28,6 +29,7 @@ for test in $("$tests" --list | sed -n 's/^\(tests::refused::[a-z_]*\).*/\1/p');
             status=1
         fi
         more=$(cat "$made/count")
+        [ -n "$more" ] || { echo "refused: nothing was counted in $test"; exit 1; }
         sed -n 's/.* waves, .*/&/p' "$made/said" >> "$made/ways"
     done
     all=$((all + growth - 1))
