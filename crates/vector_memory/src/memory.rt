@@ -14,6 +14,7 @@ use indexmap::map::Iter;
 use segment_desc::OutOfMemory;
 use std::alloc::Global;
 use std::marker::Model;
+use std::mem;
 use thiserror::Error;
 
 /// The limit of a memory as it is made: the greatest number of items of a value, and the greatest sum of the lengths of a
@@ -200,15 +201,33 @@ impl Memory {
         ensures ok { OnOk result (self.new ≡ put self.old name (content_of value)) }
         ensures err { OnErr result (self.new ≡ self.old) }
     {
+        match self.replace(name, value) {
+            Ok(_) => Ok(()),
+            Err(fault) => Err(fault),
+        }
+    }
+
+    /// `store`, and the value that stood at the name before comes back, if there was one.
+    #[inline]
+    pub fn replace(&mut self, name: Name, value: Value) -> Result<Option<Value>, StoreFault>
+        requires { FitsLimits self.old.limit (content_of value) }
+        ensures judged { IsJudged result (refusal self.old name (content_of value)) }
+        ensures new_only { result ≡ Err StoreFault.OutOfMemory → value_at self.old name ≡ None }
+        ensures ok { OnOk result (self.new ≡ put self.old name (content_of value)) }
+        ensures before { IfOk result (λ before. option_map content_of before ≡ value_at self.old name) }
+        ensures err { OnErr result (self.new ≡ self.old) }
+    {
         let place = match self.judge(&name, &value) {
             Ok(place) => place,
             Err(fault) => return Err(fault),
         };
         match put_at(&mut self.values, place.index, name, value) {
-            Ok(()) => self.cells = place.cells,
-            Err(OutOfMemory) => return Err(StoreFault::OutOfMemory),
+            Ok(before) => {
+                self.cells = place.cells;
+                Ok(before)
+            }
+            Err(OutOfMemory) => Err(StoreFault::OutOfMemory),
         }
-        Ok(())
     }
 
     /// Takes a name and its value away, and answers whether the name was there. The names behind it close up and keep
@@ -227,25 +246,23 @@ impl Memory {
     }
 }
 
-/// Puts a value over the one at the index of its name, or last where there is none.
+/// Puts a value in place of the one at the index of its name, which comes back, or last where there is none.
 fn put_at(
     values: &mut IndexMap<Name, Value>,
     index: Option<usize>,
     name: Name,
     value: Value,
-) -> Result<(), OutOfMemory>
+) -> Result<Option<Value>, OutOfMemory>
     requires index { index ≡ index_of same_name values.old name }
     requires unique { IsUnique same_name values.old }
     ensures ok { OnOk result (values.new.entries ≡ insert_entry same_name values.old.entries name value) }
+    ensures before { IfOk result (λ before. before ≡ get same_name values.old name) }
     ensures err { OnErr result (values.new.entries ≡ values.old.entries) }
     ensures absent { OnErr result (get same_name values.old name ≡ None) }
     ensures unique { IsUnique same_name values.new }
 {
     match index {
-        Some(index) => values[index] = value,
-        None => {
-            values.insert(name, value)?;
-        }
+        Some(index) => Ok(Some(mem::replace(&mut values[index], value))),
+        None => Ok(values.insert(name, value)?),
     }
-    Ok(())
 }

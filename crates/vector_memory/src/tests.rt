@@ -389,3 +389,41 @@ fn takes_so_many_names_and_no_more(rt: HostRuntime) -> Result<(), Fail> {
     let mut memory = Memory::new(rt.alloc(), NAME_LIMIT as u64)?;
     expect_full(&rt, rt.alloc(), &mut memory)
 }
+
+/// Puts a value at a name, and compares what stood there before.
+fn expect_replaced(
+    rt: &impl Abort,
+    alloc: Global,
+    memory: &mut Memory,
+    plain: Plain<'_>,
+    wanted: Option<Plain<'_>>,
+) -> Result<(), Fail> {
+    memories_are_lawful(memory);
+    let value = made(alloc, plain, memory.limit())?;
+    let replaced = memory.replace(name(b"a")?, value);
+    let before = replaced.map_err(|_| "refused")?;
+    match (before, wanted) {
+        (Some(value), Some(plain)) => assert!(rt; is(alloc, &value, plain)?),
+        (None, None) => {}
+        _ => Err("not what stood before")?,
+    }
+    Ok(())
+}
+
+#[test]
+fn hands_back_what_stood_before(rt: HostRuntime) -> Result<(), Fail> {
+    let mut memory = Memory::new(rt.alloc(), 4)?;
+    let values = [
+        Plain::Ints(&[1, 2]),
+        Plain::Bools(&[true]),
+        Plain::Segs(&[3, 0]),
+        Plain::Ints(&[]),
+    ];
+    let mut before = None;
+    for plain in values {
+        expect_replaced(&rt, rt.alloc(), &mut memory, plain, before)?;
+        before = Some(plain);
+    }
+    expect_counts(&rt, &memory, 1, 0);
+    Ok(())
+}
