@@ -7,16 +7,16 @@ ghost use Rattle.permute_kernels.specs.Indices.{LieWithin};
 ghost use Rattle.permute_kernels.specs.Gathered.{segmented_gather};
 
 use crate::gather::gather;
-use scan_kernels::{Execution, Meter};
+use scan_kernels::{Execution, Meter, Source};
 use segment_desc::{OutOfMemory, Segd};
-use std::alloc::{AllocError, Global};
+use std::alloc::AllocError;
 
 /// For each index in order the integer at its place, in one pass into a vector of its final size. Segment j of the index,
 /// by the lengths `by`, holds places of segment j of the integers, by the lengths `source`, as `in_range` tells. The
 /// segments are as many on both sides, and have the integers and the indices all together.
 pub fn back_permute_z(
     _execution: &impl Execution,
-    alloc: Global,
+    alloc: impl Source<i64>,
     meter: &mut Meter,
     items: &[i64],
     source: &Segd,
@@ -39,7 +39,7 @@ pub fn back_permute_z(
 /// The same for truth values.
 pub fn back_permute_b(
     _execution: &impl Execution,
-    alloc: Global,
+    alloc: impl Source<bool>,
     meter: &mut Meter,
     flags: &[bool],
     source: &Segd,
@@ -60,7 +60,7 @@ pub fn back_permute_b(
 }
 
 pub(crate) fn gather_each<T: Copy + Send + Sync>(
-    alloc: Global,
+    alloc: impl Source<T>,
     items: &[T],
     source: &[usize],
     index: &[i64],
@@ -73,7 +73,7 @@ pub(crate) fn gather_each<T: Copy + Send + Sync>(
     ensures items { IfOk result (λ v. v.items ≡ segmented_gather source.now items.now by.now index.now) }
     ensures exact { IfOk result (λ v. IsExact v) }
 {
-    let mut made = Vec::with_capacity(alloc, index.len())?;
+    let mut made = alloc.vector(index.len())?;
     let mut from = 0;
     let mut at = 0;
     for j in 0..by.len() {

@@ -7,15 +7,15 @@ ghost use Rattle.permute_kernels.specs.Indices.{IsPlaceOf};
 ghost use Rattle.permute_kernels.specs.Gathered.{gathered};
 
 use crate::place::place_of;
-use scan_kernels::{Execution, Meter};
+use scan_kernels::{Execution, Meter, Source};
 use segment_desc::OutOfMemory;
-use std::alloc::{AllocError, Global};
+use std::alloc::AllocError;
 
 /// For each index in order the integer at its place, in one pass into a vector of its final size. Each index is a place of
 /// the integers, as `are_places` tells.
 pub fn gather_z(
     _execution: &impl Execution,
-    alloc: Global,
+    alloc: impl Source<i64>,
     meter: &mut Meter,
     items: &[i64],
     index: &[i64],
@@ -33,7 +33,7 @@ pub fn gather_z(
 /// The same for truth values.
 pub fn gather_b(
     _execution: &impl Execution,
-    alloc: Global,
+    alloc: impl Source<bool>,
     meter: &mut Meter,
     flags: &[bool],
     index: &[i64],
@@ -49,7 +49,7 @@ pub fn gather_b(
 }
 
 pub(crate) fn gathered<T: Copy + Send + Sync>(
-    alloc: Global,
+    alloc: impl Source<T>,
     items: &[T],
     index: &[i64],
 ) -> Result<Vec<T>, AllocError>
@@ -57,7 +57,7 @@ pub(crate) fn gathered<T: Copy + Send + Sync>(
     ensures items { IfOk result (λ v. v.items ≡ gathered index.now items.now) }
     ensures exact { IfOk result (λ v. IsExact v) }
 {
-    let mut made = Vec::with_capacity(alloc, index.len())?;
+    let mut made = alloc.vector(index.len())?;
     gather(items, index, &mut made);
     Ok(made)
 }

@@ -2,8 +2,8 @@
 //! 1990): permute, back permute, gather and pack. Each gives its plain definition for every length and every segment list, and
 //! raises a meter by one.
 //!
-//! They take an execution policy and the allocator first, then the meter. What they ask of an index is what `is_permutation`,
-//! `in_range` and `are_places` answer, word for word.
+//! They take an execution policy first, then the allocator or a vector for the result, then the meter. What they ask of an
+//! index is what `is_permutation`, `in_range` and `are_places` answer, word for word.
 #![tactic(auto)]
 
 mod back_permute;

@@ -5,9 +5,9 @@ ghost use Rattle.segment_desc.specs.Appended.{IsExact};
 ghost use Rattle.scan_kernels.specs.Metering.{CountsRun};
 ghost use Rattle.permute_kernels.specs.Packed.{number_set, numbers_set, packed};
 
-use scan_kernels::{Execution, Meter};
+use scan_kernels::{Execution, Meter, Source};
 use segment_desc::{OutOfMemory, Segd, append_reserved};
-use std::alloc::{AllocError, Global};
+use std::alloc::AllocError;
 
 /// Items are packed, and their flags counted by a byte, so many at a time.
 pub(crate) const BLOCK: usize = 128;
@@ -16,7 +16,7 @@ pub(crate) const BLOCK: usize = 128;
 /// into a vector of the final size.
 pub fn pack_z(
     _execution: &impl Execution,
-    alloc: Global,
+    alloc: impl Source<i64>,
     meter: &mut Meter,
     items: &[i64],
     flags: &[bool],
@@ -34,7 +34,7 @@ pub fn pack_z(
 /// The same for truth values.
 pub fn pack_b(
     _execution: &impl Execution,
-    alloc: Global,
+    alloc: impl Source<bool>,
     meter: &mut Meter,
     truths: &[bool],
     flags: &[bool],
@@ -52,7 +52,7 @@ pub fn pack_b(
 /// How many flags are set in each segment, in one pass. The segments have all the flags together.
 pub fn packed_lengths(
     _execution: &impl Execution,
-    alloc: Global,
+    alloc: impl Source<i64>,
     meter: &mut Meter,
     flags: &[bool],
     segments: &Segd,
@@ -70,7 +70,7 @@ pub fn packed_lengths(
 // Block by block, through a buffer that stays near.
 #[inline(always)]
 pub(crate) fn kept<T: Copy + Send + Sync>(
-    alloc: Global,
+    alloc: impl Source<T>,
     items: &[T],
     flags: &[bool],
     buffer: &mut [T],
@@ -80,7 +80,7 @@ pub(crate) fn kept<T: Copy + Send + Sync>(
     ensures items { IfOk result (λ v. v.items ≡ packed flags.now items.now) }
     ensures exact { IfOk result (λ v. IsExact v) }
 {
-    let mut made = Vec::with_capacity(alloc, count_set(flags))?;
+    let mut made = alloc.vector(count_set(flags))?;
     let mut at = 0;
     while at < items.len() {
         let end = block_end(at, items.len());
@@ -121,7 +121,7 @@ fn compress<T: Copy + Send + Sync>(items: &[T], flags: &[bool], buffer: &mut [T]
 }
 
 pub(crate) fn count_each(
-    alloc: Global,
+    alloc: impl Source<i64>,
     flags: &[bool],
     lengths: &[usize],
 ) -> Result<Vec<i64>, AllocError>
@@ -130,7 +130,7 @@ pub(crate) fn count_each(
     ensures items { IfOk result (λ v. v.items ≡ numbers_set lengths.now flags.now) }
     ensures exact { IfOk result (λ v. IsExact v) }
 {
-    let mut made = Vec::with_capacity(alloc, lengths.len())?;
+    let mut made = alloc.vector(lengths.len())?;
     let mut at = 0;
     for &length in lengths {
         let end = at + length;

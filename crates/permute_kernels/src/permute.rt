@@ -7,16 +7,16 @@ ghost use Rattle.permute_kernels.specs.Indices.{HoldsEachPlaceOnce, PermuteSegme
 ghost use Rattle.permute_kernels.specs.Permuted.{IsPermuted, IsPermutedBySegments, permuted, segmented_permute};
 
 use crate::place::place_of;
-use scan_kernels::{Execution, Meter};
+use scan_kernels::{Execution, Meter, Source};
 use segment_desc::{OutOfMemory, Segd, append_reserved};
-use std::alloc::{AllocError, Global};
+use std::alloc::AllocError;
 
 /// In each segment, the integer at place i goes to the place that the index holds at i. There are as many indices as
 /// integers, the segments have them all together, and each segment of the index holds each of its places once, as
 /// `is_permutation` tells. A copy, and one pass that writes over it.
 pub fn permute_z(
     _execution: &impl Execution,
-    alloc: Global,
+    alloc: impl Source<i64>,
     meter: &mut Meter,
     items: &[i64],
     index: &[i64],
@@ -38,7 +38,7 @@ pub fn permute_z(
 /// The same for truth values.
 pub fn permute_b(
     _execution: &impl Execution,
-    alloc: Global,
+    alloc: impl Source<bool>,
     meter: &mut Meter,
     flags: &[bool],
     index: &[i64],
@@ -58,7 +58,7 @@ pub fn permute_b(
 }
 
 pub(crate) fn permuted<T: Copy + Send + Sync>(
-    alloc: Global,
+    alloc: impl Source<T>,
     items: &[T],
     index: &[i64],
     lengths: &[usize],
@@ -70,7 +70,7 @@ pub(crate) fn permuted<T: Copy + Send + Sync>(
     ensures places { IfOk result (λ v. IsPermutedBySegments lengths.now index.now items.now v.items) }
     ensures exact { IfOk result (λ v. IsExact v) }
 {
-    let mut made = Vec::with_capacity(alloc, items.len())?;
+    let mut made = alloc.vector(items.len())?;
     append_reserved(items, &mut made);
     scatter_each(items, index, lengths, made.as_mut_slice());
     Ok(made)

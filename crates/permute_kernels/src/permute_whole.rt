@@ -8,15 +8,15 @@ ghost use Rattle.permute_kernels.specs.Indices.{HoldsEachPlaceOnce};
 ghost use Rattle.permute_kernels.specs.Permuted.{IsPermuted, permuted};
 
 use crate::permute::scatter;
-use scan_kernels::{Execution, Meter};
+use scan_kernels::{Execution, Meter, Source};
 use segment_desc::{OutOfMemory, append_reserved};
-use std::alloc::{AllocError, Global};
+use std::alloc::AllocError;
 
 /// The integer at place i goes to the place that the index holds at i. There are as many indices as integers, and the index
 /// holds each of its places once, as `is_whole_permutation` tells. A copy, and one pass that writes over it.
 pub fn permute_whole_z(
     _execution: &impl Execution,
-    alloc: Global,
+    alloc: impl Source<i64>,
     meter: &mut Meter,
     items: &[i64],
     index: &[i64],
@@ -36,7 +36,7 @@ pub fn permute_whole_z(
 /// The same for truth values.
 pub fn permute_whole_b(
     _execution: &impl Execution,
-    alloc: Global,
+    alloc: impl Source<bool>,
     meter: &mut Meter,
     flags: &[bool],
     index: &[i64],
@@ -54,7 +54,7 @@ pub fn permute_whole_b(
 }
 
 pub(crate) fn permuted_whole<T: Copy + Send + Sync>(
-    alloc: Global,
+    alloc: impl Source<T>,
     items: &[T],
     index: &[i64],
 ) -> Result<Vec<T>, AllocError>
@@ -64,7 +64,7 @@ pub(crate) fn permuted_whole<T: Copy + Send + Sync>(
     ensures places { IfOk result (λ v. IsPermuted index.now items.now v.items) }
     ensures exact { IfOk result (λ v. IsExact v) }
 {
-    let mut made = Vec::with_capacity(alloc, items.len())?;
+    let mut made = alloc.vector(items.len())?;
     append_reserved(items, &mut made);
     scatter(items, index, made.as_mut_slice());
     Ok(made)

@@ -2,6 +2,7 @@
 
 mod indices;
 mod joined;
+mod kept;
 mod moves;
 mod packs;
 

@@ -9,15 +9,16 @@ ghost use Rattle.scan_kernels.specs.Metering.{CountsRun};
 use crate::choices::{by_comparison, by_name};
 use crate::execution::Execution;
 use crate::meter::Meter;
+use crate::source::Source;
 use item_operations::Cmp;
 use segment_desc::OutOfMemory;
-use std::alloc::{AllocError, Global};
+use std::alloc::AllocError;
 
 /// Whether the comparison holds of the two integers at each place of two vectors of one length, in one pass into a vector
 /// of its final size.
 pub fn compare2(
     _execution: &impl Execution,
-    alloc: Global,
+    alloc: impl Source<bool>,
     meter: &mut Meter,
     op: Cmp,
     a: &[i64],
@@ -36,7 +37,7 @@ pub fn compare2(
 // Inlined, so that the loop is built for each comparison that a caller names.
 #[inline(always)]
 pub(crate) fn compared(
-    alloc: Global,
+    alloc: impl Source<bool>,
     op: Cmp,
     a: &[i64],
     b: &[i64],
@@ -45,7 +46,7 @@ pub(crate) fn compared(
     ensures items { IfOk result (λ v. v.items ≡ item_by_item (compares op) a.now b.now) }
     ensures exact { IfOk result (λ v. IsExact v) }
 {
-    let mut made = Vec::with_capacity(alloc, a.len())?;
+    let mut made = alloc.vector(a.len())?;
     for i in 0..a.len() {
         made.push_reserved(op.apply(a[i], b[i]));
     }

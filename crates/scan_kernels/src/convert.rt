@@ -7,13 +7,14 @@ ghost use Rattle.scan_kernels.specs.Metering.{CountsRun};
 
 use crate::execution::Execution;
 use crate::meter::Meter;
+use crate::source::Source;
 use segment_desc::OutOfMemory;
-use std::alloc::{AllocError, Global};
+use std::alloc::AllocError;
 
 /// True for each integer that is not 0, in one pass into a vector of its final size.
 pub fn truth(
     _execution: &impl Execution,
-    alloc: Global,
+    alloc: impl Source<bool>,
     meter: &mut Meter,
     a: &[i64],
 ) -> Result<Vec<bool>, OutOfMemory>
@@ -26,11 +27,11 @@ pub fn truth(
     Ok(made)
 }
 
-pub(crate) fn truths(alloc: Global, a: &[i64]) -> Result<Vec<bool>, AllocError>
+pub(crate) fn truths(alloc: impl Source<bool>, a: &[i64]) -> Result<Vec<bool>, AllocError>
     ensures items { IfOk result (λ v. v.items ≡ map is_true a.now) }
     ensures exact { IfOk result (λ v. IsExact v) }
 {
-    let mut made = Vec::with_capacity(alloc, a.len())?;
+    let mut made = alloc.vector(a.len())?;
     for x in a {
         made.push_reserved(is_true(*x));
     }
@@ -46,7 +47,7 @@ fn is_true(x: i64) -> bool
 /// 1 for each truth value that is true and 0 for the others, in one pass into a vector of its final size.
 pub fn number(
     _execution: &impl Execution,
-    alloc: Global,
+    alloc: impl Source<i64>,
     meter: &mut Meter,
     a: &[bool],
 ) -> Result<Vec<i64>, OutOfMemory>
@@ -59,11 +60,11 @@ pub fn number(
     Ok(made)
 }
 
-pub(crate) fn numbers(alloc: Global, a: &[bool]) -> Result<Vec<i64>, AllocError>
+pub(crate) fn numbers(alloc: impl Source<i64>, a: &[bool]) -> Result<Vec<i64>, AllocError>
     ensures items { IfOk result (λ v. v.items ≡ map as_number a.now) }
     ensures exact { IfOk result (λ v. IsExact v) }
 {
-    let mut made = Vec::with_capacity(alloc, a.len())?;
+    let mut made = alloc.vector(a.len())?;
     for x in a {
         made.push_reserved(as_number(*x));
     }

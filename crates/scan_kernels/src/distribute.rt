@@ -9,14 +9,15 @@ use crate::execution::Execution;
 use crate::fill::repeat;
 use crate::meter::Meter;
 use crate::singles::{BLOCK, are_single};
+use crate::source::Source;
 use segment_desc::{OutOfMemory, Segd, append_reserved};
-use std::alloc::{AllocError, Global};
+use std::alloc::AllocError;
 
 /// Integer j as often as segment j is long, in one pass into a vector of its final size. There are as many integers as
 /// segments.
 pub fn distribute_z(
     _execution: &impl Execution,
-    alloc: Global,
+    alloc: impl Source<i64>,
     meter: &mut Meter,
     values: &[i64],
     segments: &Segd,
@@ -35,7 +36,7 @@ pub fn distribute_z(
 /// values as segments.
 pub fn distribute_b(
     _execution: &impl Execution,
-    alloc: Global,
+    alloc: impl Source<bool>,
     meter: &mut Meter,
     flags: &[bool],
     segments: &Segd,
@@ -51,7 +52,7 @@ pub fn distribute_b(
 }
 
 pub(crate) fn distribute<T: Copy + Send + Sync>(
-    alloc: Global,
+    alloc: impl Source<T>,
     values: &[T],
     lengths: &[usize],
     total: usize,
@@ -61,7 +62,7 @@ pub(crate) fn distribute<T: Copy + Send + Sync>(
     ensures items { IfOk result (λ v. v.items ≡ distributed lengths.now values.now) }
     ensures exact { IfOk result (λ v. IsExact v) }
 {
-    let mut made = Vec::with_capacity(alloc, total)?;
+    let mut made = alloc.vector(total)?;
     let mut rest = values;
     for block in lengths.chunks(BLOCK) {
         let (block_values, behind) = rest.split_at(block.len());

@@ -10,14 +10,15 @@ ghost use Rattle.scan_kernels.specs.Metering.{CountsRun};
 use crate::execution::Execution;
 use crate::meter::Meter;
 use crate::singles::{BLOCK, are_single};
+use crate::source::Source;
 use segment_desc::{OutOfMemory, Segd};
-use std::alloc::{AllocError, Global};
+use std::alloc::AllocError;
 
 /// In segment j the integers from start j on by stride j, which wrap, in one pass into a vector of its final size. There
 /// are as many starts, and as many strides, as segments.
 pub fn index(
     _execution: &impl Execution,
-    alloc: Global,
+    alloc: impl Source<i64>,
     meter: &mut Meter,
     starts: &[i64],
     strides: &[i64],
@@ -35,7 +36,7 @@ pub fn index(
 }
 
 pub(crate) fn index_each(
-    alloc: Global,
+    alloc: impl Source<i64>,
     starts: &[i64],
     strides: &[i64],
     lengths: &[usize],
@@ -48,7 +49,7 @@ pub(crate) fn index_each(
     ensures items { IfOk result (λ v. v.items ≡ segmented_index lengths.now starts.now strides.now) }
     ensures exact { IfOk result (λ v. IsExact v) }
 {
-    let mut made = Vec::with_capacity(alloc, total)?;
+    let mut made = alloc.vector(total)?;
     let mut rest_starts = starts;
     let mut rest_strides = strides;
     for block in lengths.chunks(BLOCK) {

@@ -1,7 +1,7 @@
 //! Kernels over flat vectors, item by item or cut into segments (Blelloch, Vector Models for Data-Parallel Computing,
 //! 1990): each gives its plain definition for every length and every segment list, and raises a meter by one.
 //!
-//! They take an execution policy and the allocator first, then the meter.
+//! They take an execution policy first, then the allocator or a vector for the result, then the meter.
 #![tactic(auto)]
 
 mod choices;
@@ -21,6 +21,7 @@ mod reduce;
 mod scan;
 mod select;
 mod singles;
+mod source;
 #[cfg(test)]
 mod tests;
 mod whole;
@@ -47,6 +48,7 @@ pub use meter::{DEFAULT_CHUNK, Meter};
 pub use reduce::{reduce_b, reduce_z};
 pub use scan::{scan_b, scan_z};
 pub use select::{select_b, select_z};
+pub use source::{Kept, Source};
 pub use whole::{
     index_whole, reduce_whole_b, reduce_whole_z, repeat_b, repeat_z, scan_whole_b, scan_whole_z,
 };

@@ -10,14 +10,15 @@ ghost use Rattle.scan_kernels.specs.Metering.{CountsRun};
 use crate::choices::{by_b1, by_b2, by_name, by_z1, by_z2};
 use crate::execution::Execution;
 use crate::meter::Meter;
+use crate::source::Source;
 use item_operations::{B1, B2, Z1, Z2};
 use segment_desc::OutOfMemory;
-use std::alloc::{AllocError, Global};
+use std::alloc::AllocError;
 
 /// The operation on each integer, in one pass into a vector of its final size.
 pub fn map1_z(
     _execution: &impl Execution,
-    alloc: Global,
+    alloc: impl Source<i64>,
     meter: &mut Meter,
     op: Z1,
     a: &[i64],
@@ -32,11 +33,11 @@ pub fn map1_z(
 }
 
 #[inline(always)]
-pub(crate) fn altered_z(alloc: Global, op: Z1, a: &[i64]) -> Result<Vec<i64>, AllocError>
+pub(crate) fn altered_z(alloc: impl Source<i64>, op: Z1, a: &[i64]) -> Result<Vec<i64>, AllocError>
     ensures items { IfOk result (λ v. v.items ≡ map (alter_z op) a.now) }
     ensures exact { IfOk result (λ v. IsExact v) }
 {
-    let mut made = Vec::with_capacity(alloc, a.len())?;
+    let mut made = alloc.vector(a.len())?;
     for x in a {
         made.push_reserved(op.apply(*x));
     }
@@ -46,7 +47,7 @@ pub(crate) fn altered_z(alloc: Global, op: Z1, a: &[i64]) -> Result<Vec<i64>, Al
 /// The operation on each truth value, in one pass into a vector of its final size.
 pub fn map1_b(
     _execution: &impl Execution,
-    alloc: Global,
+    alloc: impl Source<bool>,
     meter: &mut Meter,
     op: B1,
     a: &[bool],
@@ -61,11 +62,15 @@ pub fn map1_b(
 }
 
 #[inline(always)]
-pub(crate) fn altered_b(alloc: Global, op: B1, a: &[bool]) -> Result<Vec<bool>, AllocError>
+pub(crate) fn altered_b(
+    alloc: impl Source<bool>,
+    op: B1,
+    a: &[bool],
+) -> Result<Vec<bool>, AllocError>
     ensures items { IfOk result (λ v. v.items ≡ map (alter_b op) a.now) }
     ensures exact { IfOk result (λ v. IsExact v) }
 {
-    let mut made = Vec::with_capacity(alloc, a.len())?;
+    let mut made = alloc.vector(a.len())?;
     for x in a {
         made.push_reserved(op.apply(*x));
     }
@@ -76,7 +81,7 @@ pub(crate) fn altered_b(alloc: Global, op: B1, a: &[bool]) -> Result<Vec<bool>, 
 /// size. `Div` and `Mod` ask for `divisors_ok` of the second vector, `Lsh` and `Rsh` for `shifts_ok`.
 pub fn map2_z(
     _execution: &impl Execution,
-    alloc: Global,
+    alloc: impl Source<i64>,
     meter: &mut Meter,
     op: Z2,
     a: &[i64],
@@ -93,7 +98,7 @@ pub fn map2_z(
     Ok(made)
 }
 
-fn chosen_z(alloc: Global, op: Z2, a: &[i64], b: &[i64]) -> Result<Vec<i64>, AllocError>
+fn chosen_z(alloc: impl Source<i64>, op: Z2, a: &[i64], b: &[i64]) -> Result<Vec<i64>, AllocError>
     requires same_length { length a.now ≡ length b.now }
     requires allowed { All (IsAllowed op) b.now }
     ensures items { IfOk result (λ v. v.items ≡ item_by_item (apply_z op) a.now b.now) }
@@ -103,13 +108,18 @@ fn chosen_z(alloc: Global, op: Z2, a: &[i64], b: &[i64]) -> Result<Vec<i64>, All
 }
 
 #[inline(always)]
-pub(crate) fn applied_z(alloc: Global, op: Z2, a: &[i64], b: &[i64]) -> Result<Vec<i64>, AllocError>
+pub(crate) fn applied_z(
+    alloc: impl Source<i64>,
+    op: Z2,
+    a: &[i64],
+    b: &[i64],
+) -> Result<Vec<i64>, AllocError>
     requires same_length { length a.now ≡ length b.now }
     requires allowed { All (IsAllowed op) b.now }
     ensures items { IfOk result (λ v. v.items ≡ item_by_item (apply_z op) a.now b.now) }
     ensures exact { IfOk result (λ v. IsExact v) }
 {
-    let mut made = Vec::with_capacity(alloc, a.len())?;
+    let mut made = alloc.vector(a.len())?;
     for i in 0..a.len() {
         made.push_reserved(op.apply(a[i], b[i]));
     }
@@ -120,7 +130,7 @@ pub(crate) fn applied_z(alloc: Global, op: Z2, a: &[i64], b: &[i64]) -> Result<V
 /// final size.
 pub fn map2_b(
     _execution: &impl Execution,
-    alloc: Global,
+    alloc: impl Source<bool>,
     meter: &mut Meter,
     op: B2,
     a: &[bool],
@@ -138,7 +148,7 @@ pub fn map2_b(
 
 #[inline(always)]
 pub(crate) fn applied_b(
-    alloc: Global,
+    alloc: impl Source<bool>,
     op: B2,
     a: &[bool],
     b: &[bool],
@@ -147,7 +157,7 @@ pub(crate) fn applied_b(
     ensures items { IfOk result (λ v. v.items ≡ item_by_item (apply_b op) a.now b.now) }
     ensures exact { IfOk result (λ v. IsExact v) }
 {
-    let mut made = Vec::with_capacity(alloc, a.len())?;
+    let mut made = alloc.vector(a.len())?;
     for i in 0..a.len() {
         made.push_reserved(op.apply(a[i], b[i]));
     }

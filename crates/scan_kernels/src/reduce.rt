@@ -11,15 +11,16 @@ use crate::choices::{by_name, by_scan_b, by_scan_z};
 use crate::execution::Execution;
 use crate::meter::Meter;
 use crate::singles::{BLOCK, are_single};
+use crate::source::Source;
 use item_operations::{Combine, ScanB, ScanZ};
 use segment_desc::{OutOfMemory, Segd};
-use std::alloc::{AllocError, Global};
+use std::alloc::AllocError;
 
 /// What the operation makes of each segment of integers, in one pass into a vector with one item for each segment. The
 /// segments have all the items together.
 pub fn reduce_z(
     _execution: &impl Execution,
-    alloc: Global,
+    alloc: impl Source<i64>,
     meter: &mut Meter,
     op: ScanZ,
     items: &[i64],
@@ -40,7 +41,7 @@ pub fn reduce_z(
 /// segments have all the items together.
 pub fn reduce_b(
     _execution: &impl Execution,
-    alloc: Global,
+    alloc: impl Source<bool>,
     meter: &mut Meter,
     op: ScanB,
     items: &[bool],
@@ -59,7 +60,7 @@ pub fn reduce_b(
 
 #[inline(always)]
 pub(crate) fn reduce<O: Combine>(
-    alloc: Global,
+    alloc: impl Source<O::Item>,
     op: O,
     items: &[O::Item],
     lengths: &[usize],
@@ -68,7 +69,7 @@ pub(crate) fn reduce<O: Combine>(
     ensures items { IfOk result (λ v. v.items ≡ segmented_reduce (O.combined op) (O.unit_of op) lengths.now items.now) }
     ensures exact { IfOk result (λ v. IsExact v) }
 {
-    let mut made = Vec::with_capacity(alloc, lengths.len())?;
+    let mut made = alloc.vector(lengths.len())?;
     let mut rest = items;
     for block in lengths.chunks(BLOCK) {
         rest = reduce_block(op, rest, block, &mut made);

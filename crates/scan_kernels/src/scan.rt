@@ -12,15 +12,16 @@ use crate::execution::Execution;
 use crate::fill::repeat;
 use crate::meter::Meter;
 use crate::singles::{BLOCK, are_single};
+use crate::source::Source;
 use item_operations::{Combine, ScanB, ScanZ};
 use segment_desc::{OutOfMemory, Segd};
-use std::alloc::{AllocError, Global};
+use std::alloc::AllocError;
 
 /// The exclusive scan of each segment of integers, in one pass into a vector of its final size. The segments have all the
 /// items together.
 pub fn scan_z(
     _execution: &impl Execution,
-    alloc: Global,
+    alloc: impl Source<i64>,
     meter: &mut Meter,
     op: ScanZ,
     items: &[i64],
@@ -41,7 +42,7 @@ pub fn scan_z(
 /// the items together.
 pub fn scan_b(
     _execution: &impl Execution,
-    alloc: Global,
+    alloc: impl Source<bool>,
     meter: &mut Meter,
     op: ScanB,
     items: &[bool],
@@ -60,7 +61,7 @@ pub fn scan_b(
 
 #[inline(always)]
 pub(crate) fn scan<O: Combine>(
-    alloc: Global,
+    alloc: impl Source<O::Item>,
     op: O,
     items: &[O::Item],
     lengths: &[usize],
@@ -69,7 +70,7 @@ pub(crate) fn scan<O: Combine>(
     ensures items { IfOk result (λ v. v.items ≡ segmented_scan (O.combined op) (O.unit_of op) lengths.now items.now) }
     ensures exact { IfOk result (λ v. IsExact v) }
 {
-    let mut made = Vec::with_capacity(alloc, items.len())?;
+    let mut made = alloc.vector(items.len())?;
     let mut rest = items;
     for block in lengths.chunks(BLOCK) {
         rest = scan_block(op, rest, block, &mut made);

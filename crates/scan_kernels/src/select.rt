@@ -7,14 +7,15 @@ ghost use Rattle.scan_kernels.specs.Metering.{CountsRun};
 
 use crate::execution::Execution;
 use crate::meter::Meter;
+use crate::source::Source;
 use segment_desc::OutOfMemory;
-use std::alloc::{AllocError, Global};
+use std::alloc::AllocError;
 
 /// At each place the integer of the first vector where the flag is set, else that of the second. All three have one
 /// length. One pass into a vector of its final size.
 pub fn select_z(
     _execution: &impl Execution,
-    alloc: Global,
+    alloc: impl Source<i64>,
     meter: &mut Meter,
     flags: &[bool],
     a: &[i64],
@@ -35,7 +36,7 @@ pub fn select_z(
 /// length. One pass into a vector of its final size.
 pub fn select_b(
     _execution: &impl Execution,
-    alloc: Global,
+    alloc: impl Source<bool>,
     meter: &mut Meter,
     flags: &[bool],
     a: &[bool],
@@ -53,7 +54,7 @@ pub fn select_b(
 }
 
 pub(crate) fn chosen<T: Copy + Send + Sync>(
-    alloc: Global,
+    alloc: impl Source<T>,
     flags: &[bool],
     a: &[T],
     b: &[T],
@@ -63,7 +64,7 @@ pub(crate) fn chosen<T: Copy + Send + Sync>(
     ensures items { IfOk result (λ v. v.items ≡ selected flags.now a.now b.now) }
     ensures exact { IfOk result (λ v. IsExact v) }
 {
-    let mut made = Vec::with_capacity(alloc, flags.len())?;
+    let mut made = alloc.vector(flags.len())?;
     for i in 0..flags.len() {
         made.push_reserved(either(flags[i], a[i], b[i]));
     }

@@ -2,6 +2,7 @@
 
 mod elementwise;
 mod joined;
+mod kept;
 mod policies;
 mod scans;
 mod spreads;

@@ -16,14 +16,15 @@ use crate::indices::index_segment;
 use crate::meter::Meter;
 use crate::reduce::reduce_segment;
 use crate::scan::scan_segment;
+use crate::source::Source;
 use item_operations::{Combine, ScanB, ScanZ};
 use segment_desc::OutOfMemory;
-use std::alloc::{AllocError, Global};
+use std::alloc::AllocError;
 
 /// The exclusive scan of all the integers, in one pass into a vector of its final size.
 pub fn scan_whole_z(
     _execution: &impl Execution,
-    alloc: Global,
+    alloc: impl Source<i64>,
     meter: &mut Meter,
     op: ScanZ,
     items: &[i64],
@@ -40,7 +41,7 @@ pub fn scan_whole_z(
 /// The exclusive scan of all the truth values, in one pass into a vector of its final size.
 pub fn scan_whole_b(
     _execution: &impl Execution,
-    alloc: Global,
+    alloc: impl Source<bool>,
     meter: &mut Meter,
     op: ScanB,
     items: &[bool],
@@ -56,14 +57,14 @@ pub fn scan_whole_b(
 
 #[inline(always)]
 pub(crate) fn scan_whole<O: Combine>(
-    alloc: Global,
+    alloc: impl Source<O::Item>,
     op: O,
     items: &[O::Item],
 ) -> Result<Vec<O::Item>, AllocError>
     ensures items { IfOk result (λ v. v.items ≡ scanned (O.combined op) (O.unit_of op) items.now) }
     ensures exact { IfOk result (λ v. IsExact v) }
 {
-    let mut made = Vec::with_capacity(alloc, items.len())?;
+    let mut made = alloc.vector(items.len())?;
     scan_segment(op, items, &mut made);
     Ok(made)
 }
@@ -111,7 +112,7 @@ fn chosen_reduction_b(op: ScanB, items: &[bool]) -> bool
 /// The integer so many times, in one pass into a vector of its final size.
 pub fn repeat_z(
     _execution: &impl Execution,
-    alloc: Global,
+    alloc: impl Source<i64>,
     meter: &mut Meter,
     item: i64,
     count: usize,
@@ -128,7 +129,7 @@ pub fn repeat_z(
 /// The truth value so many times, in one pass into a vector of its final size.
 pub fn repeat_b(
     _execution: &impl Execution,
-    alloc: Global,
+    alloc: impl Source<bool>,
     meter: &mut Meter,
     item: bool,
     count: usize,
@@ -144,14 +145,14 @@ pub fn repeat_b(
 
 #[inline(always)]
 pub(crate) fn repeated<T: Copy + Send + Sync>(
-    alloc: Global,
+    alloc: impl Source<T>,
     item: T,
     count: usize,
 ) -> Result<Vec<T>, AllocError>
     ensures items { IfOk result (λ v. v.items ≡ replicate count item) }
     ensures exact { IfOk result (λ v. IsExact v) }
 {
-    let mut made = Vec::with_capacity(alloc, count)?;
+    let mut made = alloc.vector(count)?;
     repeat(item, count, &mut made);
     Ok(made)
 }
@@ -159,7 +160,7 @@ pub(crate) fn repeated<T: Copy + Send + Sync>(
 /// So many integers from the start on by the stride, which wrap, in one pass into a vector of its final size.
 pub fn index_whole(
     _execution: &impl Execution,
-    alloc: Global,
+    alloc: impl Source<i64>,
     meter: &mut Meter,
     start: i64,
     stride: i64,
@@ -177,7 +178,7 @@ pub fn index_whole(
 
 #[inline(always)]
 pub(crate) fn rising(
-    alloc: Global,
+    alloc: impl Source<i64>,
     start: i64,
     stride: i64,
     count: usize,
@@ -186,7 +187,7 @@ pub(crate) fn rising(
     ensures items { IfOk result (λ v. v.items ≡ indexed start stride count) }
     ensures exact { IfOk result (λ v. IsExact v) }
 {
-    let mut made = Vec::with_capacity(alloc, count)?;
+    let mut made = alloc.vector(count)?;
     index_segment(start, stride, count, &mut made);
     Ok(made)
 }

@@ -7,7 +7,7 @@ use Rattle.permute_kernels.proofs.Segments.{length_segment}
 use Rattle.permute_kernels.proofs.pack.count_each.Goals as goal
 
 pub loop-length-preserved : goal.loop-length-preserved
-loop-length-preserved c =
+loop-length-preserved g c =
     let ls = c.args.lengths.now in
     let flags = c.args.flags.now in
     let i = c.loop-length.length-index in

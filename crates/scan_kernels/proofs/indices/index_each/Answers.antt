@@ -7,7 +7,7 @@ use Rattle.scan_kernels.proofs.ResultLengths.{length-segmented_index}
 use Rattle.scan_kernels.proofs.indices.index_each.Goals as goal
 
 pub loop-block-preserved : goal.loop-block-preserved
-loop-block-preserved c =
+loop-block-preserved g c =
     let block = c.in-Some.block.now in
     let later = chunks_rest c.next.new.self in
     let starts = c.loop-block.rest_starts.now in

@@ -5,9 +5,9 @@ use Rattle.scan_kernels.specs.Indexed.{segmented_index}
 use Rattle.scan_kernels.proofs.indices.index_each.Given as goal
 
 abbrev pub invariant-loop-block : goal.invariant-loop-block
-invariant-loop-block l = record {
-  can_next : goal.iterator-loop-block.can_next l.block-iterator;
-  is_finite : goal.iterator-loop-block.is_finite l.block-iterator;
+invariant-loop-block g l = record {
+  can_next : (goal.iterator-loop-block g).can_next l.block-iterator;
+  is_finite : (goal.iterator-loop-block g).is_finite l.block-iterator;
   starts : length (chunks_rest l.block-iterator) ≡ length l.rest_starts;
   strides : length (chunks_rest l.block-iterator) ≡ length l.rest_strides;
   within : IsWithinLimits (chunks_rest l.block-iterator);
