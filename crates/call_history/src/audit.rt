@@ -7,8 +7,8 @@ ghost use Rattle.call_history.specs.History.{replay};
 ghost use Rattle.call_history.specs.Shown.{shown};
 
 use crate::entry::Entry;
-use cvl_calls::step;
-use scan_kernels::Execution;
+use cvl_calls::{Spare, step_with};
+use scan_kernels::{Execution, Meter};
 use std::alloc::Global;
 use vector_memory::{Memory, Name, OutOfMemory, Value};
 
@@ -23,10 +23,17 @@ pub(crate) fn replayed(
     ensures { IfOk result (λ memory. memory ≡ replay room entries.now) }
 {
     let mut memory = Memory::new(alloc, room)?;
+    let mut meter = Meter::new();
+    let mut spare = Spare::new(alloc);
     for entry in entries {
-        let Ok(_reply) = step(execution, alloc, &mut memory, &entry.call) else {
-            return Err(OutOfMemory);
-        };
+        step_with(
+            execution,
+            alloc,
+            &mut meter,
+            &mut spare,
+            &mut memory,
+            &entry.call,
+        )?;
     }
     Ok(memory)
 }

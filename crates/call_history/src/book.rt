@@ -12,7 +12,7 @@ ghost use Rattle.call_history.specs.Works.{IsWork};
 use crate::audit::{holds_the_same, replayed};
 use crate::entry::Entry;
 use crate::work::Work;
-use cvl_calls::{Product, apply, step_metered, target};
+use cvl_calls::{Product, Spare, apply_with, step_with, target};
 use cvl_text::{Call, Reply};
 use scan_kernels::{Execution, Meter};
 use std::alloc::Global;
@@ -30,6 +30,8 @@ pub struct Book {
     entries: Vec<Entry>,
     /// The next ticket of each caller. It lies apart, so that a book is moved by few bytes.
     tickets: Box<[u64; CALLER_LIMIT]>,
+    /// Vectors that were replaced, for the next results.
+    spare: Spare,
 }
 
 impl Model for Book {
@@ -75,7 +77,12 @@ fn enter(
 }
 
 /// Stores or says what a call made of the memory.
-fn done(memory: &mut Memory, call: &Call, work: Work) -> Result<Reply, OutOfMemory>
+fn done(
+    spare: &mut Spare,
+    memory: &mut Memory,
+    call: &Call,
+    work: Work,
+) -> Result<Reply, OutOfMemory>
     requires { IsWork work (work_on memory.old (task_of call.now)) }
     ensures ok { IfOk result (λ reply. stepped memory.old (task_of call.now)
         ≡ record { memory = memory.new; answer = answer_of reply }) }
@@ -84,7 +91,7 @@ fn done(memory: &mut Memory, call: &Call, work: Work) -> Result<Reply, OutOfMemo
     memories_are_lawful(memory);
     match work {
         Work::Say(reply) => Ok(reply),
-        Work::Store(value) => apply(memory, target(call), Product::Store(value)),
+        Work::Store(value) => apply_with(spare, memory, target(call), Product::Store(value)),
     }
 }
 
@@ -99,6 +106,7 @@ impl Book {
             memory: Memory::new(alloc, room)?,
             entries: Vec::new(alloc),
             tickets: Box::new(alloc, [0; CALLER_LIMIT])?,
+            spare: Spare::new(alloc),
         })
     }
 
@@ -166,7 +174,14 @@ impl Book {
         let Ok(()) = self.entries.reserve(1) else {
             return Err((call, OutOfMemory));
         };
-        let Ok(reply) = step_metered(execution, alloc, meter, &mut self.memory, &call) else {
+        let Ok(reply) = step_with(
+            execution,
+            alloc,
+            meter,
+            &mut self.spare,
+            &mut self.memory,
+            &call,
+        ) else {
             return Err((call, OutOfMemory));
         };
         let place = enter(&mut self.entries, &mut self.tickets, caller, call);
@@ -198,7 +213,7 @@ impl Book {
         let Ok(()) = self.entries.reserve(1) else {
             return Err((call, OutOfMemory));
         };
-        let Ok(reply) = done(&mut self.memory, &call, work) else {
+        let Ok(reply) = done(&mut self.spare, &mut self.memory, &call, work) else {
             return Err((call, OutOfMemory));
         };
         let place = enter(&mut self.entries, &mut self.tickets, caller, call);

@@ -9,6 +9,7 @@ ghost use Rattle.cvl_calls.specs.Outcomes.{effect_of};
 use crate::judged::Judged;
 use crate::operands::Vector;
 use crate::product::Product;
+use crate::spare::Spare;
 use crate::stored::{stored_bools, stored_ints};
 use permute_kernels::{
     back_permute_b, back_permute_z, gather_b, gather_z, pack_b, pack_z, permute_b, permute_whole_b,
@@ -16,13 +17,12 @@ use permute_kernels::{
 };
 use scan_kernels::{Execution, Meter, distribute_b, distribute_z};
 use segment_desc::{OutOfMemory, Segd};
-use std::alloc::Global;
 
 /// Each item as often as its segment is long.
 #[inline(always)]
 pub(crate) fn distributed(
     execution: &impl Execution,
-    alloc: Global,
+    spare: &mut Spare,
     meter: &mut Meter,
     items: Vector<'_>,
     segments: &Segd,
@@ -32,15 +32,15 @@ pub(crate) fn distributed(
     ensures counted { CountsRun result meter.old meter.new }
 {
     match items {
-        Vector::Ints(xs) => stored_ints(distribute_z(execution, alloc, meter, xs, segments)),
-        Vector::Bools(xs) => stored_bools(distribute_b(execution, alloc, meter, xs, segments)),
+        Vector::Ints(xs) => stored_ints(distribute_z(execution, spare, meter, xs, segments)),
+        Vector::Bools(xs) => stored_bools(distribute_b(execution, spare, meter, xs, segments)),
     }
 }
 
 /// Each item at the place that the index holds beside it, in its segment.
 pub(crate) fn permuted_segments(
     execution: &impl Execution,
-    alloc: Global,
+    spare: &mut Spare,
     meter: &mut Meter,
     items: Vector<'_>,
     places: &[i64],
@@ -51,15 +51,15 @@ pub(crate) fn permuted_segments(
     ensures counted { CountsRun result meter.old meter.new }
 {
     match items {
-        Vector::Ints(xs) => stored_ints(permute_z(execution, alloc, meter, xs, places, segments)),
-        Vector::Bools(xs) => stored_bools(permute_b(execution, alloc, meter, xs, places, segments)),
+        Vector::Ints(xs) => stored_ints(permute_z(execution, spare, meter, xs, places, segments)),
+        Vector::Bools(xs) => stored_bools(permute_b(execution, spare, meter, xs, places, segments)),
     }
 }
 
 /// Each item at the place that the index holds beside it.
 pub(crate) fn permuted(
     execution: &impl Execution,
-    alloc: Global,
+    spare: &mut Spare,
     meter: &mut Meter,
     items: Vector<'_>,
     places: &[i64],
@@ -69,8 +69,8 @@ pub(crate) fn permuted(
     ensures counted { CountsRun result meter.old meter.new }
 {
     match items {
-        Vector::Ints(xs) => stored_ints(permute_whole_z(execution, alloc, meter, xs, places)),
-        Vector::Bools(xs) => stored_bools(permute_whole_b(execution, alloc, meter, xs, places)),
+        Vector::Ints(xs) => stored_ints(permute_whole_z(execution, spare, meter, xs, places)),
+        Vector::Bools(xs) => stored_bools(permute_whole_b(execution, spare, meter, xs, places)),
     }
 }
 
@@ -78,7 +78,7 @@ pub(crate) fn permuted(
 #[inline(always)]
 pub(crate) fn gathered_segments(
     execution: &impl Execution,
-    alloc: Global,
+    spare: &mut Spare,
     meter: &mut Meter,
     items: Vector<'_>,
     source: &Segd,
@@ -91,10 +91,10 @@ pub(crate) fn gathered_segments(
 {
     match items {
         Vector::Ints(xs) => stored_ints(back_permute_z(
-            execution, alloc, meter, xs, source, places, by,
+            execution, spare, meter, xs, source, places, by,
         )),
         Vector::Bools(xs) => stored_bools(back_permute_b(
-            execution, alloc, meter, xs, source, places, by,
+            execution, spare, meter, xs, source, places, by,
         )),
     }
 }
@@ -102,7 +102,7 @@ pub(crate) fn gathered_segments(
 /// For each index the item at its place.
 pub(crate) fn gathered(
     execution: &impl Execution,
-    alloc: Global,
+    spare: &mut Spare,
     meter: &mut Meter,
     items: Vector<'_>,
     places: &[i64],
@@ -112,8 +112,8 @@ pub(crate) fn gathered(
     ensures counted { CountsRun result meter.old meter.new }
 {
     match items {
-        Vector::Ints(xs) => stored_ints(gather_z(execution, alloc, meter, xs, places)),
-        Vector::Bools(xs) => stored_bools(gather_b(execution, alloc, meter, xs, places)),
+        Vector::Ints(xs) => stored_ints(gather_z(execution, spare, meter, xs, places)),
+        Vector::Bools(xs) => stored_bools(gather_b(execution, spare, meter, xs, places)),
     }
 }
 
@@ -121,7 +121,7 @@ pub(crate) fn gathered(
 #[inline(always)]
 pub(crate) fn packed(
     execution: &impl Execution,
-    alloc: Global,
+    spare: &mut Spare,
     meter: &mut Meter,
     items: Vector<'_>,
     flags: &[bool],
@@ -131,8 +131,8 @@ pub(crate) fn packed(
     ensures counted { CountsRun result meter.old meter.new }
 {
     match items {
-        Vector::Ints(xs) => stored_ints(pack_z(execution, alloc, meter, xs, flags)),
-        Vector::Bools(xs) => stored_bools(pack_b(execution, alloc, meter, xs, flags)),
+        Vector::Ints(xs) => stored_ints(pack_z(execution, spare, meter, xs, flags)),
+        Vector::Bools(xs) => stored_bools(pack_b(execution, spare, meter, xs, flags)),
     }
 }
 
@@ -140,7 +140,7 @@ pub(crate) fn packed(
 #[inline(always)]
 pub(crate) fn packed_segments(
     execution: &impl Execution,
-    alloc: Global,
+    spare: &mut Spare,
     meter: &mut Meter,
     items: Vector<'_>,
     flags: &[bool],
@@ -150,5 +150,5 @@ pub(crate) fn packed_segments(
     ensures makes { IfOk result (λ product. effect_of product ≡ made (Judged.PackSegments items.entry flags.entry segments.entry)) }
     ensures counted { CountsRun result meter.old meter.new }
 {
-    packed(execution, alloc, meter, items, flags)
+    packed(execution, spare, meter, items, flags)
 }

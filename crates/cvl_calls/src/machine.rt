@@ -10,7 +10,8 @@ ghost use Rattle.cvl_calls.specs.Runs.{TakesNoMemory, runs_kernel, tests_index};
 
 use crate::judging::judge;
 use crate::product::Product;
-use crate::running::run;
+use crate::running::run_with;
+use crate::spare::Spare;
 use crate::stop::Stop;
 use cvl_text::{Call, Fault, Reply, target};
 use scan_kernels::{Execution, Meter};
@@ -33,23 +34,78 @@ pub fn work(
     ensures counted { Counts (runs_kernel (task_of call.now).word) result meter.old meter.new }
     ensures fits { IfOk result (λ product. IsFittingEffect memory.now.limit (effect_of product)) }
 {
-    let judged = judge(alloc, memory, call)?;
-    Ok(run(execution, alloc, meter, judged)?)
+    work_with(
+        execution,
+        alloc,
+        meter,
+        &mut Spare::new(alloc),
+        memory,
+        call,
+    )
 }
 
+/// `work`, whose result may lie in a vector that was kept.
 #[inline(always)]
-fn store(memory: &mut Memory, to: Name, value: Value) -> Result<Reply, OutOfMemory>
+pub fn work_with(
+    execution: &impl Execution,
+    alloc: Global,
+    meter: &mut Meter,
+    spare: &mut Spare,
+    memory: &Memory,
+    call: &Call,
+) -> Result<Product, Stop>
+    ensures gives { let task = task_of call.now in
+        GivesBy (tests_index task.word) effect_of result (work memory.now.limit task.word (operands_of memory.now task.arguments)) }
+    ensures answered { TakesNoMemory (task_of call.now).word → IsDecided result }
+    ensures counted { Counts (runs_kernel (task_of call.now).word) result meter.old meter.new }
+    ensures fits { IfOk result (λ product. IsFittingEffect memory.now.limit (effect_of product)) }
+{
+    let judged = judge(alloc, memory, call)?;
+    Ok(run_with(execution, alloc, meter, spare, judged)?)
+}
+
+/// The reply to a store, and the value that stood at the name before.
+#[inline(always)]
+fn store(memory: &mut Memory, to: Name, value: Value) -> Result<(Reply, Option<Value>), OutOfMemory>
     requires { FitsLimits memory.old.limit (content_of value) }
-    ensures ok { IfOk result (λ reply. stored memory.old to (content_of value)
-        ≡ record { memory = memory.new; answer = answer_of reply }) }
+    ensures ok { IfOk result (λ done. stored memory.old to (content_of value)
+        ≡ record { memory = memory.new; answer = answer_of done.0 }) }
     ensures grows { OnErr result (refusal memory.old to (content_of value) ≡ None) }
     ensures err { OnErr result (memory.new ≡ memory.old) }
 {
-    match memory.store(to, value) {
-        Ok(()) => Ok(Reply::Done),
-        Err(StoreFault::NoRoom) => Ok(Reply::Fault(Fault::NoRoom)),
-        Err(StoreFault::TooManyNames) => Ok(Reply::Fault(Fault::TooManyNames)),
+    match memory.replace(to, value) {
+        Ok(before) => Ok((Reply::Done, before)),
+        Err(StoreFault::NoRoom) => Ok((Reply::Fault(Fault::NoRoom), None)),
+        Err(StoreFault::TooManyNames) => Ok((Reply::Fault(Fault::TooManyNames), None)),
         Err(StoreFault::OutOfMemory) => Err(OutOfMemory),
+    }
+}
+
+/// The reply to a call, of what was made of its operands, and the value that it replaced.
+#[inline(always)]
+fn settle(
+    memory: &mut Memory,
+    to: Option<Name>,
+    product: Product,
+) -> Result<(Reply, Option<Value>), OutOfMemory>
+    requires { IsFittingEffect memory.old.limit (effect_of product) }
+    ensures ok { IfOk result (λ done. applied memory.old to (effect_of product)
+        ≡ record { memory = memory.new; answer = answer_of done.0 }) }
+    ensures grows { OnErr result (Grows memory.old to (effect_of product)) }
+    ensures err { OnErr result (memory.new ≡ memory.old) }
+{
+    match product {
+        Product::Reply(reply) => Ok((reply, None)),
+        Product::Store(value) => match to {
+            Some(to) => store(memory, to, value),
+            None => Ok((Reply::Done, None)),
+        },
+        Product::Free => {
+            if let Some(name) = to {
+                memory.free(&name);
+            }
+            Ok((Reply::Done, None))
+        }
     }
 }
 
@@ -63,19 +119,29 @@ pub fn apply(memory: &mut Memory, to: Option<Name>, product: Product) -> Result<
     ensures grows { OnErr result (Grows memory.old to (effect_of product)) }
     ensures err { OnErr result (memory.new ≡ memory.old) }
 {
-    match product {
-        Product::Reply(reply) => Ok(reply),
-        Product::Store(value) => match to {
-            Some(to) => store(memory, to, value),
-            None => Ok(Reply::Done),
-        },
-        Product::Free => {
-            if let Some(name) = to {
-                memory.free(&name);
-            }
-            Ok(Reply::Done)
-        }
+    let (reply, _) = settle(memory, to, product)?;
+    Ok(reply)
+}
+
+/// `apply`, and the vector of the value that was replaced is kept for a next result.
+#[inline(always)]
+pub fn apply_with(
+    spare: &mut Spare,
+    memory: &mut Memory,
+    to: Option<Name>,
+    product: Product,
+) -> Result<Reply, OutOfMemory>
+    requires { IsFittingEffect memory.old.limit (effect_of product) }
+    ensures ok { IfOk result (λ reply. applied memory.old to (effect_of product)
+        ≡ record { memory = memory.new; answer = answer_of reply }) }
+    ensures grows { OnErr result (Grows memory.old to (effect_of product)) }
+    ensures err { OnErr result (memory.new ≡ memory.old) }
+{
+    let (reply, before) = settle(memory, to, product)?;
+    if let Some(value) = before {
+        spare.keep(value);
     }
+    Ok(reply)
 }
 
 /// Runs a call on a memory: `work`, and then `apply`. A fault is a reply, and it and a want of memory leave the memory as it was.
@@ -95,8 +161,34 @@ pub fn step_metered(
     ensures err { OnErr result (memory.new ≡ memory.old) }
     ensures counted { CountsStep (runs_on memory.old (task_of call.now)) result meter.old meter.new }
 {
-    match work(execution, alloc, meter, memory, call) {
-        Ok(product) => apply(memory, target(call), product),
+    step_with(
+        execution,
+        alloc,
+        meter,
+        &mut Spare::new(alloc),
+        memory,
+        call,
+    )
+}
+
+/// `step_metered`, with vectors that were replaced and are kept for the next results.
+pub fn step_with(
+    execution: &impl Execution,
+    alloc: Global,
+    meter: &mut Meter,
+    spare: &mut Spare,
+    memory: &mut Memory,
+    call: &Call,
+) -> Result<Reply, OutOfMemory>
+    ensures ok { IfOk result (λ reply. stepped memory.old (task_of call.now)
+        ≡ record { memory = memory.new; answer = answer_of reply }) }
+    ensures lacks { OnErr result (MayLackMemory memory.old (task_of call.now)) }
+    ensures answered { TakesNoMemory (task_of call.now).word → IsOk result }
+    ensures err { OnErr result (memory.new ≡ memory.old) }
+    ensures counted { CountsStep (runs_on memory.old (task_of call.now)) result meter.old meter.new }
+{
+    match work_with(execution, alloc, meter, spare, memory, call) {
+        Ok(product) => apply_with(spare, memory, target(call), product),
         Err(Stop::Fault(fault)) => Ok(Reply::Fault(fault)),
         Err(Stop::OutOfMemory) => Err(OutOfMemory),
     }

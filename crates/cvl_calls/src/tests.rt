@@ -1,8 +1,8 @@
 //! Each public function with ample memory. What each call replies is tested as scripts, above this crate.
 
 use crate::{
-    Call, Fault, Judged, Product, Reply, Stop, alike, apply, call_word, check, judge, run,
-    runs_kernel, step, work,
+    Call, Fault, Judged, Product, Reply, Spare, Stop, alike, apply, call_word, check, judge, run,
+    runs_kernel, step, step_with, work,
 };
 use scan_kernels::{Meter, Sequential};
 use std::alloc::Global;
@@ -197,6 +197,50 @@ fn knows_alike_calls(rt: HostRuntime) -> Result<(), Fail> {
         let other = Call::read(rt.alloc(), other)?;
         assert!(rt; alike(&one, &other) == are_alike, "{one:?}");
         assert!(rt; !are_alike || runs_kernel(call_word(&one)), "{one:?}");
+    }
+    Ok(())
+}
+
+/// The reply to a line that is run on the memory with what was kept.
+fn replied_with<'a>(
+    rt: &(impl Threads + Sync),
+    alloc: Global,
+    spare: &mut Spare,
+    memory: &mut Memory,
+    line: &[u8],
+) -> Result<Vec<u8>, Fail> {
+    let call = Call::read(alloc, line)?;
+    let mut text = Vec::new(alloc);
+    let mut meter = Meter::new();
+    step_with(rt, alloc, &mut meter, spare, memory, &call)?.write(&mut text)?;
+    Ok(text)
+}
+
+/// Lines, their replies, and how many bytes are kept behind each.
+const KEPT: &[(&[u8], &[u8], usize)] = &[
+    (b"a = z 1 2 3", b"ok", 0),
+    (b"b = z 10 20 30", b"ok", 0),
+    (b"c = b T F T", b"ok", 0),
+    (b"a = add_wuz a b", b"ok", 24),
+    (b"a = add_wuz a b", b"ok", 24),
+    (b"c = not_wub c", b"ok", 27),
+    (b"d = add_wuz a b", b"ok", 3),
+    (b"a = eql_wuz a b", b"ok", 24),
+    (b"a = dis_vuz 7 9000", b"ok", 3),
+    (b"a = dis_vuz 7 2", b"ok", 3),
+    (b"get a", b"z 7 7", 3),
+    (b"get c", b"b F T F", 3),
+    (b"get d", b"z 31 62 93", 3),
+];
+
+#[test]
+fn keeps_what_stores_replace(rt: HostRuntime) -> Result<(), Fail> {
+    let mut memory = Memory::new(rt.alloc(), 20_000)?;
+    let mut spare = Spare::new(rt.alloc());
+    for &(line, reply, bytes) in KEPT {
+        let said = replied_with(&rt, rt.alloc(), &mut spare, &mut memory, line)?;
+        assert!(&rt; said.as_slice() == reply);
+        assert_eq!(&rt; spare.bytes(), bytes);
     }
     Ok(())
 }

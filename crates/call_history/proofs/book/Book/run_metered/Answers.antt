@@ -14,8 +14,8 @@ invariant_of-self-2 g c =
     let added = next_entry history c.args.caller c.args.call in
     let items : c.enter-place.new.entries.items ≡ history ++ added ∷ [] = c.enter-place.ensures.items ∙ ap (λ es. es ++ next_entry es c.args.caller c.args.call ∷ []) c.reserve.ensures.items in
     record {
-      replayed = replay-push c.self.inside.memory c.step_metered.new.memory history added c.self.invariant.replayed (ap (λ s. s.memory) c.in-Ok-step_metered.ensures.ok)
-          ∙ ap (λ es. replay c.step_metered.new.memory.room es) (sym items);
+      replayed = replay-push c.self.inside.memory c.step_with.new.memory history added c.self.invariant.replayed (ap (λ s. s.memory) c.in-Ok-step_with.ensures.ok)
+          ∙ ap (λ es. replay c.step_with.new.memory.room es) (sym items);
       ticketed = c.enter-place.ensures.ticketed;
       lawful_callers = c.enter-place.ensures.lawful_callers;
       counted = c.enter-place.ensures.counted;
@@ -23,29 +23,29 @@ invariant_of-self-2 g c =
 
 pub returns-clause-room : goal.returns-clause-room
 returns-clause-room g c =
-    ap (λ s. s.memory.room) (sym c.in-Ok-step_metered.ensures.ok) ∙ (room-stepped c.self.inside.memory (task_of c.args.call) ∙ ap (λ s. s.room) c.self.view_is)
+    ap (λ s. s.memory.room) (sym c.in-Ok-step_with.ensures.ok) ∙ (room-stepped c.self.inside.memory (task_of c.args.call) ∙ ap (λ s. s.room) c.self.view_is)
 
 pub returns-clause-memory : goal.returns-clause-memory
 returns-clause-memory g c =
     let kept = invariant_of-self-2 g c in
     let task = task_of c.args.call in
-    sym kept.replayed ∙ (ap (λ s. s.memory) (sym c.in-Ok-step_metered.ensures.ok) ∙ ap (λ m. (stepped m task).memory) (c.self.invariant.replayed ∙ ap memory_of c.self.view_is))
+    sym kept.replayed ∙ (ap (λ s. s.memory) (sym c.in-Ok-step_with.ensures.ok) ∙ ap (λ m. (stepped m task).memory) (c.self.invariant.replayed ∙ ap memory_of c.self.view_is))
 
 pub returns-in_default-clause-counted : goal.returns-in_default-clause-counted
 returns-in_default-clause-counted g c =
     counts_nothing _ _ c.args.meter.now (runs_on (memory_of c.args.self.now) (task_of c.args.call)) _
 
-pub returns-in_default-step_metered-clause-counted :
-    goal.returns-in_default-step_metered-clause-counted
-returns-in_default-step_metered-clause-counted g c =
+pub returns-in_default-step_with-clause-counted :
+    goal.returns-in_default-step_with-clause-counted
+returns-in_default-step_with-clause-counted g c =
     let task = task_of c.args.call in
     let known = c.self.invariant.replayed ∙ ap memory_of c.self.view_is in
-    counts_refused _ _ _ _ c.args.meter.now c.step_metered.new.meter (runs_on (memory_of c.args.self.now) task) _ _
-    (subst (λ m. CountsStep (runs_on m task) (Err c.in_default-step_metered.field-0) c.args.meter.now c.step_metered.new.meter) known c.in_default-step_metered.ensures.counted)
+    counts_refused _ _ _ _ c.args.meter.now c.step_with.new.meter (runs_on (memory_of c.args.self.now) task) _ _
+    (subst (λ m. CountsStep (runs_on m task) (Err c.in_default-step_with.field-0) c.args.meter.now c.step_with.new.meter) known c.in_default-step_with.ensures.counted)
 
 pub returns-clause-counted : goal.returns-clause-counted
 returns-clause-counted g c =
     let task = task_of c.args.call in
     let known = c.self.invariant.replayed ∙ ap memory_of c.self.view_is in
-    counts_answered _ _ _ _ c.args.meter.now c.step_metered.new.meter (runs_on (memory_of c.args.self.now) task) _ _
-    (subst (λ m. CountsStep (runs_on m task) (Ok c.in-Ok-step_metered.reply) c.args.meter.now c.step_metered.new.meter) known c.in-Ok-step_metered.ensures.counted)
+    counts_answered _ _ _ _ c.args.meter.now c.step_with.new.meter (runs_on (memory_of c.args.self.now) task) _ _
+    (subst (λ m. CountsStep (runs_on m task) (Ok c.in-Ok-step_with.reply) c.args.meter.now c.step_with.new.meter) known c.in-Ok-step_with.ensures.counted)

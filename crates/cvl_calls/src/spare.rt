@@ -1,0 +1,92 @@
+//! Vectors that were replaced, kept for the next results.
+
+ghost use Rattle.std.specs.Prelude.{◌≡◌, ◌≤◌};
+ghost use Rattle.cvl_calls.specs.Spares.{kept_limit};
+
+use scan_kernels::{Kept, Source};
+use std::alloc::{AllocError, Global};
+use std::marker::Model;
+use std::mem;
+use vector_memory::Value;
+
+/// The greatest number of integers of a vector that is kept: 64 KiB.
+const KEPT_INTS: usize = 8_192;
+
+/// The greatest number of truth values of a vector that is kept: 64 KiB.
+const KEPT_BOOLS: usize = 65_536;
+
+/// What stores replaced, for the next results: at most one vector of integers and one of truth values, of at most 64 KiB
+/// each. It lies outside the memories, and what calls answer and store does not hang on it. To a contract it is the number of
+/// bytes that it keeps.
+#[derive(Drop)]
+pub struct Spare {
+    ints: Vec<i64>,
+    bools: Vec<bool>,
+}
+
+impl Model for Spare {
+    ghost use Rattle.std.specs.Prelude.{ℕ, vec_capacity};
+    ghost use Rattle.cvl_calls.specs.Spares.{kept_bytes, IsBounded};
+
+    ghost Value = { ℕ };
+
+    ghost view = { λ s. kept_bytes (vec_capacity s.ints) (vec_capacity s.bools) };
+
+    ghost invariant = { λ s. IsBounded (vec_capacity s.ints) (vec_capacity s.bools) };
+}
+
+impl Spare {
+    /// Nothing is kept yet.
+    pub fn new(alloc: Global) -> Spare
+        ensures { result ≡ 0 }
+    {
+        Spare {
+            ints: Vec::new(alloc),
+            bools: Vec::new(alloc),
+        }
+    }
+
+    /// How many bytes are kept, at most 131,072.
+    pub fn bytes(&self) -> usize
+        ensures bytes { result ≡ self.now }
+        ensures bounded { result ≤ kept_limit }
+    {
+        8 * self.ints.capacity() + self.bools.capacity()
+    }
+
+    /// Keeps the vector of a value that was replaced, in place of the one that it has, unless it is too large. Segment lists are
+    /// not kept.
+    #[inline(always)]
+    pub(crate) fn keep(&mut self, value: Value) {
+        match value {
+            Value::Ints(vector) => {
+                if vector.capacity() <= KEPT_INTS {
+                    self.ints = vector;
+                }
+            }
+            Value::Bools(vector) => {
+                if vector.capacity() <= KEPT_BOOLS {
+                    self.bools = vector;
+                }
+            }
+            Value::Segs(_) => {}
+        }
+    }
+}
+
+// A kernel takes the vector that is kept of its kind.
+impl Source<i64> for &mut Spare {
+    #[inline(always)]
+    fn vector(self, capacity: usize) -> Result<Vec<i64>, AllocError> {
+        let alloc = *self.ints.allocator();
+        Kept::new(mem::replace(&mut self.ints, Vec::new(alloc))).vector(capacity)
+    }
+}
+
+impl Source<bool> for &mut Spare {
+    #[inline(always)]
+    fn vector(self, capacity: usize) -> Result<Vec<bool>, AllocError> {
+        let alloc = *self.bools.allocator();
+        Kept::new(mem::replace(&mut self.bools, Vec::new(alloc))).vector(capacity)
+    }
+}
