@@ -34,9 +34,7 @@ impl Shared {
         ensures back { IfErr result (λ refused. refused.0 ≡ call) }
         ensures record_kept { OnErr result (caller.new.own ≡ caller.old.own) }
     {
-        let Ok(()) = self.post(caller, call) else {
-            unreachable!()
-        };
+        self.leave(caller, call);
         self.wait(rt, alloc, caller)
     }
 }

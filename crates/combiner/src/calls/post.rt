@@ -21,7 +21,18 @@ impl Shared {
         if !caller.seat.is_idle() {
             return Err(Occupied(call));
         }
-        self.slots.step_post(&mut caller.seat, call);
+        self.leave(caller, call);
         Ok(())
+    }
+
+    /// Leaves a call, of a caller that is idle.
+    #[inline(always)]
+    pub(crate) fn leave(&self, caller: &mut Caller, call: Call)
+        requires machine { caller.old.machine ≡ self.now }
+        requires idle { IsIdle caller.old }
+        ensures machine { caller.new.machine ≡ self.now }
+        ensures left { caller.new ≡ leaving caller.old call }
+    {
+        self.slots.step_post(&mut caller.seat, call);
     }
 }
