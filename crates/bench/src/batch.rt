@@ -6,7 +6,7 @@ ghost use Rattle.std.specs.Prelude.{◌≡◌, ◌≢◌, ◌<◌, ◌≤◌, []
 ghost use Rattle.std.specs.List.{AllByRecursion, AllPairs};
 ghost use Rattle.call_history.specs.Callers.{caller_limit};
 
-use crate::load::{name, numbers};
+use crate::operands::{name, numbers};
 use batch_flatten::{BATCH_LIMIT, run_batch};
 use call_history::{Book, CALLER_LIMIT, Outcome, Request};
 use cvl_text::{Call, Z2};

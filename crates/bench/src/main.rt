@@ -1,17 +1,23 @@
 //! The benchmark program. `bench kernels` times the kernels, and prints a line for each row:
 //! `kernels TAB row TAB cvl TAB nanoseconds an item`, where a row is a kernel and how many items it runs over.
-//! `bench shared` times threads that share a machine, as `shared.rt` says. `bench batch` times batches, as `batch.rt` says, and
-//! how they are planned, as `plans.rt` says. Without arguments it prints its usage; so it does for other arguments, with
-//! status 2.
+//! `bench shared` times threads that share a machine, as `rates.rt` and `latencies.rt` say. `bench shared WORDS` prints the rows
+//! of those loads alone whose name begins so, as `bench shared "T=4 len=16"`. `bench batch` times batches, as `batch.rt` says,
+//! and how they are planned, as `plans.rt` says. Without arguments it prints its usage; so it does for other arguments, and for
+//! words with which no load's name begins, with status 2.
 #![tactic(auto)]
 
 mod batch;
+mod calls;
 mod case;
 mod inputs;
+mod latencies;
 mod load;
+mod operands;
 mod plans;
+mod rates;
 mod runs;
 mod shared;
+mod threads;
 mod timing;
 
 use case::{CASES, Case};
@@ -22,7 +28,7 @@ use std::rt::Clock;
 use std::thread::Threads;
 use std::{env, io};
 
-const USAGE: &str = "usage: bench kernels|shared|batch";
+const USAGE: &str = "usage: bench kernels|shared [WORDS]|batch";
 
 /// How many items the kernels run over.
 const SIZES: [u32; 4] = [1_000, 32_000, 1_000_000, 16_000_000];
@@ -41,57 +47,56 @@ fn kernels<R: Alloc<A = Global> + Clock + Print + Threads + Sync>(rt: &R) -> io:
     Ok(())
 }
 
-/// How many calls each thread of a shared machine makes.
-const CALLS: u32 = 100_000;
-
 /// What the arguments ask for.
+#[derive(Drop)]
 enum Asked {
     Usage,
     Kernels,
-    Shared,
+    /// The rows of the shared machine whose names begin so.
+    Shared(String),
     Batch,
     Unknown,
 }
 
 fn read_arguments(rt: &HostRuntime) -> io::Result<Asked> {
-    let mut words = env::args(rt)?;
-    words.next();
-    let Some(word) = words.next() else {
+    let mut arguments = env::args(rt)?;
+    arguments.next();
+    let Some(word) = arguments.next() else {
         return Ok(Asked::Usage);
     };
-    if words.next().is_some() {
+    let words = arguments.next();
+    if arguments.next().is_some() {
         return Ok(Asked::Unknown);
     }
-    match word.as_str() {
-        "kernels" => Ok(Asked::Kernels),
-        "shared" => Ok(Asked::Shared),
-        "batch" => Ok(Asked::Batch),
-        _ => Ok(Asked::Unknown),
-    }
+    Ok(match (word.as_str(), words) {
+        ("kernels", None) => Asked::Kernels,
+        ("shared", None) => Asked::Shared(String::new(rt.alloc())),
+        ("shared", Some(words)) => Asked::Shared(words),
+        ("batch", None) => Asked::Batch,
+        _ => Asked::Unknown,
+    })
+}
+
+/// For arguments that ask for no rows.
+fn refuse(rt: &impl Print) -> io::Result<ExitCode> {
+    println!(rt; "{USAGE}")?;
+    Ok(ExitCode::from(2))
 }
 
 fn main(rt: HostRuntime) -> io::Result<ExitCode> {
     match read_arguments(&rt)? {
-        Asked::Kernels => {
-            kernels(&rt)?;
-            Ok(ExitCode::SUCCESS)
-        }
-        Asked::Shared => {
-            shared::rows(&rt, CALLS)?;
-            Ok(ExitCode::SUCCESS)
+        Asked::Kernels => kernels(&rt)?,
+        Asked::Shared(words) => {
+            if !shared::rows(&rt, &words)? {
+                return refuse(&rt);
+            }
         }
         Asked::Batch => {
             plans::rows(&rt)?;
             batch::rows(&rt)?;
-            Ok(ExitCode::SUCCESS)
         }
-        Asked::Usage => {
-            println!(rt; "{USAGE}")?;
-            Ok(ExitCode::SUCCESS)
-        }
-        Asked::Unknown => {
-            println!(rt; "{USAGE}")?;
-            Ok(ExitCode::from(2))
-        }
+        Asked::Usage => println!(rt; "{USAGE}")?,
+        Asked::Unknown => return refuse(&rt),
     }
+    Ok(ExitCode::SUCCESS)
 }

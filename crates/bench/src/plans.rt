@@ -2,7 +2,7 @@
 
 ghost use Rattle.std.specs.Prelude.{◌≤◌, vec_len};
 
-use crate::load::name;
+use crate::operands::name;
 use batch_flatten::{BATCH_LIMIT, waves};
 use call_history::Request;
 use cvl_text::{Call, Z2};

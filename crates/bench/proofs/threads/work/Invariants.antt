@@ -1,6 +1,6 @@
 use Rattle.std.proofs.Common.{◌≡◌}
 use Rattle.combiner.specs.Standing.{IsIdle}
-use Rattle.bench.proofs.load.work.Given as goal
+use Rattle.bench.proofs.threads.work.Given as goal
 
 abbrev pub invariant-loop : goal.invariant-loop
 invariant-loop g l = (l.caller.machine ≡ l.shared) × IsIdle l.caller
