@@ -1,7 +1,7 @@
 -- Each step of a pass leads to the next.
--- `taking_misses` and `taking_hits` are the tries, `taking_batch` says that what was taken may be run, and `pass_serves` what the
--- whole pass comes to.
-use Rattle.std.proofs.Common.{◌≡◌, ◌≢◌, ℕ, zero, suc, ◌+◌, ◌<◌, ◌≤◌, ◌==◌, eq-eqb, ne_eqb, ◌||◌, Bool, true, false, List, [], ◌∷◌, ◌++◌, map, length, take, set, lt_of_not-le, None, refl, sym, ap, ◌∙◌, subst, arith, length-append}
+-- `taking_misses` and `taking_hits` are the tries, `taking_batch` says that what was taken may be run, `pass_serves` what the steps
+-- behind the tries come to, and `serve_past` what the whole pass does.
+use Rattle.std.proofs.Common.{◌≡◌, ◌≢◌, ℕ, zero, suc, ◌+◌, ◌<◌, ◌≤◌, ◌==◌, eq-eqb, ne_eqb, ◌||◌, Bool, true, false, List, [], ◌∷◌, ◌++◌, map, length, take, set, lt_of_not-le, None, refl, sym, ap, ◌∙◌, subst, arith, length-append, vec_capacity}
 use Rattle.std.specs.List.{AllByRecursion}
 use mathlib.Core.Logic.{dite}
 use mathlib.Core.List.{map-append}
@@ -12,14 +12,14 @@ use Rattle.call_history.specs.declared.request.Outcome.{Outcome}
 use Rattle.call_history.specs.History.{Begins}
 use Rattle.call_history.specs.Callers.{caller_limit}
 use Rattle.call_history.specs.Fits.{request, request_by}
-use Rattle.call_history.proofs.Beginnings.{begins_trans}
 use Rattle.call_history.proofs.Serving.{request_by-push_else}
+use Rattle.request_slots.specs.declared.desk.Desk.{Desk}
 use Rattle.request_slots.specs.declared.known.Known.{Known}
 use Rattle.request_slots.specs.Passes.{is_in, tries, takes_on}
-use Rattle.request_slots.specs.Changes.{holding, noting, settling}
+use Rattle.request_slots.specs.Changes.{noting, settling}
 use Rattle.request_slots.specs.Views.{pass_in, passing, locking, committing, unlocking}
 use Rattle.request_slots.proofs.RequestLists.{distinct-push, request_by-middle}
-use Rattle.combiner.specs.Passes.{Taking, Telling, IsBatch, HasServed, asker}
+use Rattle.combiner.specs.Passes.{Taking, Telling, IsReady, IsBatch, HasServed, asker, past}
 
 is_in-last : (xs : List ℕ) (i : ℕ) → is_in (xs ++ i ∷ []) i ≡ true
 is_in-last [] i = ap (λ b. b || false) (eq-eqb i i refl)
@@ -105,20 +105,55 @@ taking_batch before now callers requests numbers small t =
     let inside = inside_all callers (pass_in now).taken t.untaken in
     subst (IsBatch callers) (sym t.requests_are) record { distinct = t.distinct; inside = inside; lawful = lawful_all callers (pass_in now).taken small inside }
 
--- the steps of a pass, one after the other
-pub pass_serves : (callers : ℕ) (c k1 k2 k3 k4 k5 : Known) (line book : List Entry) (outcomes : List Outcome) (requests : List Request) (numbers : List ℕ) → k1 ≡ locking c line
-    → Taking k1 k2 callers requests numbers → Begins line book → k3 ≡ committing k2 (pass_in k2) book outcomes → Telling callers k3 k4 [] numbers 0 → k5 ≡ unlocking k4 (pass_in k4)
-    → c.standing.number < callers → Begins c.standing.seen line → HasServed c k5 (length requests)
-pass_serves callers c k1 k2 k3 k4 k5 line book outcomes requests numbers locked t grows committed told unlocked inside saw =
-    let second : k2 ≡ passing (locking c line) (pass_in k2) = t.now_is ∙ ap (λ (k : Known). passing k (pass_in k2)) locked in
-    let third : k3 ≡ committing (locking c line) (pass_in k2) book outcomes = committed ∙ ap (λ (k : Known). committing k (pass_in k2) book outcomes) second in
-    let fourth : k4 ≡ passing (committing (locking c line) (pass_in k2) book outcomes) (pass_in k4) = told.now_is ∙ ap (λ (k : Known). passing k (pass_in k4)) third in
-    let fifth : k5 ≡ unlocking (passing (committing (locking c line) (pass_in k2) book outcomes) (pass_in k4)) (pass_in k4) = unlocked ∙ ap (λ (k : Known). unlocking k (pass_in k4)) fourth in
+-- what was taken since the desk was taken is all that the pass has
+pub taking_here : (before now : Known) (i : ℕ) (requests : List Request) (numbers : List ℕ) → Taking before now i requests numbers → Taking now now i requests numbers
+taking_here before now i requests numbers t = record {
+  has = t.has;
+  now_is = λ j. record now { pass = t.has j };
+  line_is = refl;
+  open_yet = t.open_yet;
+  tried = t.tried;
+  untried = t.untried;
+  untaken = t.untaken;
+  distinct = t.distinct;
+  requests_are = t.requests_are;
+  few = t.few;
+  numbered = t.numbered;
+}
+
+-- the desk, once all words were tried
+pub desk_ready : (callers : ℕ) (c k : Known) (line : List Entry) (d : Desk) (requests : List Request) (numbers : List ℕ) → Taking c k callers requests numbers → c.standing.number < callers → c.standing.held ≡ true
+    → Begins c.standing.seen line → (pass_in c).line ≡ line → d.requests.items ≡ requests → d.book.history ≡ line → d.book.room ≡ c.standing.room → d.outcomes.items ≡ [] → callers ≤ vec_capacity d.requests
+    → callers ≤ vec_capacity d.outcomes → IsReady callers k numbers d
+desk_ready callers c k line d requests numbers t inside held saw had taken_are history_is room_is none first second = record {
+  taken = subst (λ (rs : List Request). Taking k k callers rs numbers) (sym taken_are) (taking_here c k callers requests numbers t);
+  inside = subst (λ (z : Known). z.standing.number < callers) (sym t.now_is) inside;
+  held = ap (λ (z : Known). z.standing.held) t.now_is ∙ held;
+  begins = subst (λ (z : Known). Begins z.standing.seen d.book.history) (sym t.now_is) (subst (Begins c.standing.seen) (sym history_is) saw);
+  line_is = history_is ∙ (sym had ∙ sym t.line_is);
+  room_is = room_is ∙ sym (ap (λ (z : Known). z.standing.room) t.now_is);
+  no_outcomes = none;
+  request_spaces = first;
+  outcome_spaces = second;
+}
+
+-- the steps of a pass that has tried all words, one after the other
+pub pass_serves : (callers : ℕ) (c k3 k4 k5 : Known) (book : List Entry) (outcomes : List Outcome) (requests : List Request) (numbers : List ℕ) → Taking c c callers requests numbers → c.standing.held ≡ true
+    → Begins c.standing.seen book → k3 ≡ committing c (pass_in c) book outcomes → Telling callers k3 k4 [] numbers 0 → k5 ≡ unlocking k4 (pass_in k4) → c.standing.number < callers → HasServed c k5 (length requests)
+pass_serves callers c k3 k4 k5 book outcomes requests numbers t held saw committed told unlocked inside =
+    let fourth : k4 ≡ passing (committing c (pass_in c) book outcomes) (pass_in k4) = told.now_is ∙ ap (λ (k : Known). passing k (pass_in k4)) committed in
+    let fifth : k5 ≡ unlocking (passing (committing c (pass_in c) book outcomes) (pass_in k4)) (pass_in k4) = unlocked ∙ ap (λ (k : Known). unlocking k (pass_in k4)) fourth in
     let seen : (pass_in k4).line ≡ book = told.line_is ∙ ap (λ (k : Known). (pass_in k).line) committed in
     let tried : is_in (pass_in k4).tried c.standing.number ≡ true =
     ap (λ (l : List ℕ). is_in l c.standing.number) (told.tried_is ∙ ap (λ (k : Known). (pass_in k).tried) committed) ∙ t.tried c.standing.number inside in
-    let counted : length requests ≡ length (pass_in k2).taken = ap length t.requests_are in (
+    let counted : length requests ≡ length (pass_in c).taken = ap length t.requests_are in (
       book,
-      begins_trans c.standing.seen line book saw grows,
-      fifth ∙ (λ i. record c { standing = settling (noting (holding c.standing) (sym counted i)) (seen i) (tried i); pass = None }),
+      saw,
+      fifth ∙ (λ i. record c { standing = record (settling (noting c.standing (sym counted i)) (seen i) (tried i)) { held = held i }; pass = None }),
     )
+
+-- a pass, from before the desk was taken
+pub serve_past : (c k1 k2 k5 : Known) (line : List Entry) (count : ℕ) → k1 ≡ locking c line → k2 ≡ passing k1 (pass_in k2) → HasServed k2 k5 count → HasServed c k5 count
+serve_past c k1 k2 k5 line count locked taken h =
+    let second : k2 ≡ passing (locking c line) (pass_in k2) = taken ∙ ap (λ (k : Known). passing k (pass_in k2)) locked in
+    (h.0, subst (λ (k : Known). Begins k.standing.seen h.0) second h.1, h.2 ∙ ap (λ (k : Known). past k h.0 count) second)

@@ -1,7 +1,7 @@
 -- A pass: each word is tried, what was taken is run, and after the commit each caller is told.
--- `Taking` is a pass up to the last try, `IsBatch` what may be run in it, `Telling` a pass behind its commit, and `HasServed` what a
--- whole pass comes to.
-use Rattle.std.specs.Prelude.{◌≡◌, ℕ, ◌<◌, ◌≤◌, true, false, List, ◌++◌, length, map, take, None}
+-- `Taking` is a pass up to the last try, `IsReady` its desk then, `IsBatch` what may be run in it, `Telling` a pass behind its commit,
+-- and `HasServed` what a whole pass comes to.
+use Rattle.std.specs.Prelude.{◌≡◌, ℕ, ◌<◌, ◌≤◌, true, false, List, [], ◌++◌, length, map, take, None, vec_capacity}
 use Rattle.std.specs.List.{AllByRecursion}
 use Rattle.call_history.specs.declared.entry.Entry.{Entry}
 use Rattle.call_history.specs.declared.request.Request.{Request}
@@ -9,6 +9,7 @@ use Rattle.call_history.specs.declared.request.Outcome.{Outcome}
 use Rattle.call_history.specs.History.{Begins}
 use Rattle.call_history.specs.Callers.{caller_limit}
 use Rattle.call_history.specs.Fits.{request_by}
+use Rattle.request_slots.specs.declared.desk.Desk.{Desk}
 use Rattle.request_slots.specs.declared.known.Known.{Known}
 use Rattle.request_slots.specs.Passes.{is_in}
 use Rattle.request_slots.specs.Changes.{serving}
@@ -31,6 +32,19 @@ pub record Taking (before now : Known) (i : ℕ) (requests : List Request) (numb
   pub requests_are : requests ≡ (pass_in now).taken
   pub few : length requests ≤ i
   pub numbered : take (length requests) numbers ≡ map asker requests
+
+-- A caller that has the desk has tried all words: the requests taken lie there, with space for their outcomes, beside the book of the
+-- line.
+pub record IsReady (callers : ℕ) (c : Known) (numbers : List ℕ) (d : Desk) : Type 0 where
+  pub taken : Taking c c callers d.requests.items numbers
+  pub inside : c.standing.number < callers
+  pub held : c.standing.held ≡ true
+  pub begins : Begins c.standing.seen d.book.history
+  pub line_is : d.book.history ≡ (pass_in c).line
+  pub room_is : d.book.room ≡ c.standing.room
+  pub no_outcomes : d.outcomes.items ≡ []
+  pub request_spaces : callers ≤ vec_capacity d.requests
+  pub outcome_spaces : callers ≤ vec_capacity d.outcomes
 
 -- requests of distinct callers, of so many
 pub record IsBatch (callers : ℕ) (requests : List Request) : Type 0 where

@@ -10,6 +10,7 @@ mod answers;
 mod caller;
 mod calls;
 mod fault;
+mod own;
 mod pass;
 mod shared;
 #[cfg(test)]

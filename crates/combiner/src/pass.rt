@@ -6,16 +6,16 @@ ghost use Rattle.request_slots.specs.Views.{pass_in, with_standing};
 ghost use Rattle.combiner.specs.Standing.{callers_of, Rests, IsOfCallers};
 ghost use Rattle.combiner.specs.Says.{MeetsAnother};
 ghost use Rattle.combiner.specs.Serving.{ServesBatch};
-ghost use Rattle.combiner.specs.Passes.{Taking, Telling, HasServed};
+ghost use Rattle.combiner.specs.Passes.{Taking, Telling, IsReady, HasServed};
 
 use batch_flatten::{Ran, run_batch};
 use call_history::{Outcome, Request};
-use request_slots::{Seat, Slots};
+use request_slots::{Desk, Seat, Slots};
 use scan_kernels::{Execution, Meter};
 use std::alloc::Global;
 
 /// Tries each word in turn, once. The callers of the requests taken stand in `numbers`.
-fn take_all(
+pub(crate) fn take_all(
     slots: &Slots,
     seat: &mut Seat,
     callers: usize,
@@ -65,6 +65,44 @@ fn answer_all(
     }
 }
 
+/// Serves the requests taken, as one batch, and gives the desk back. How many they were, and how they were served.
+pub(crate) fn serve(
+    execution: &impl Execution,
+    alloc: Global,
+    slots: &Slots,
+    seat: &mut Seat,
+    callers: usize,
+    numbers: &[u8; 64],
+    mut desk: Box<Desk>,
+) -> (usize, Ran)
+    requires place { seat.old.standing.machine ≡ slots.now }
+    requires callers { (callers + 1 ≡ slots.now.slots) × (callers ≤ 64) }
+    requires ready { IsReady callers seat.old numbers.now desk.value }
+    ensures place { seat.new.standing.machine ≡ slots.now }
+    ensures served { HasServed seat.old seat.new result.0 }
+    ensures batch { ServesBatch seat.old.standing.room callers seat.old.standing.seen seat.new.standing.seen
+        result.0 result.1.waves result.1.kernels }
+    ensures few { result.0 ≤ callers }
+    ensures few_waves { result.1.waves ≤ result.0 }
+    ensures rests { Rests seat.new.standing }
+    ensures no_strangers { IsOfCallers (callers_of seat.new.standing.machine) seat.new.standing.seen }
+{
+    let count = desk.requests.len();
+    let open = &mut *desk;
+    let ran = run_batch(
+        execution,
+        alloc,
+        &mut open.book,
+        &mut open.requests,
+        &mut open.outcomes,
+        &mut Meter::new(),
+    );
+    slots.step_commit(seat, &desk);
+    answer_all(slots, seat, callers, numbers, &mut desk.outcomes);
+    slots.step_unlock(seat, desk);
+    (count, ran)
+}
+
 /// Serves what all callers left, as one batch, unless another caller has the desk. How many calls were taken, and how they were
 /// served.
 pub(crate) fn pass(
@@ -91,18 +129,5 @@ pub(crate) fn pass(
     let mut desk = slots.step_lock(seat)?;
     let mut numbers = [0u8; 64];
     take_all(slots, seat, callers, &mut desk.requests, &mut numbers);
-    let count = desk.requests.len();
-    let open = &mut *desk;
-    let ran = run_batch(
-        execution,
-        alloc,
-        &mut open.book,
-        &mut open.requests,
-        &mut open.outcomes,
-        &mut Meter::new(),
-    );
-    slots.step_commit(seat, &desk);
-    answer_all(slots, seat, callers, &numbers, &mut desk.outcomes);
-    slots.step_unlock(seat, desk);
-    Some((count, ran))
+    Some(serve(execution, alloc, slots, seat, callers, &numbers, desk))
 }

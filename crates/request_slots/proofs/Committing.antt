@@ -30,7 +30,7 @@ use Rattle.request_slots.proofs.Carrying.{seats_after}
 use Rattle.request_slots.proofs.Passing.{mine, holds_pass, own_knows, others_stay}
 
 -- An outcome that holds along a line holds along a longer one that has no more calls of its caller
-fate_grows : (room : ℕ) (line line' : List Entry) (k : ℕ) (own calls : List Call) (start : List Entry) (fate : Fate) → Begins line line' → calls_by k line' ≡ calls_by k line
+pub fate_grows : (room : ℕ) (line line' : List Entry) (k : ℕ) (own calls : List Call) (start : List Entry) (fate : Fate) → Begins line line' → calls_by k line' ≡ calls_by k line
     → FateHolds room line k own calls start fate → FateHolds room line' k own calls start fate
 fate_grows room line line' k own calls start (StandsAt place replies) grew same h =
     let longer = begins_length line line' grew in let short = h.0 in

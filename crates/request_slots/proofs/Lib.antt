@@ -11,5 +11,6 @@ pub mod Unlocking
 pub mod Passing
 pub mod Taking
 pub mod Committing
+pub mod Entering
 pub mod Telling
 pub mod Making

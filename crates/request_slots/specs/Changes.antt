@@ -56,6 +56,10 @@ holding c = record c { held = true }
 abbrev pub noting : Standing → ℕ → Standing
 noting c requests = record c { passes = c.passes ++ requests ∷ [] }
 
+-- calls of its own stand behind what was, and this is the history then
+abbrev pub entering : Standing → List Entry → Standing
+entering c line = record c { seen = line; own = calls_by c.number line }
+
 -- it gives the book back with this history, and what it left is settled if its own word was tried
 abbrev pub settling : Standing → List Entry → Bool → Standing
 settling c line tried = record c { seen = line; settled = c.settled || (tried && left_in c.phase) }

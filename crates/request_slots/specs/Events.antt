@@ -17,7 +17,7 @@ use Rattle.request_slots.specs.Stages.{own_word, desk_slot, own_slot, idle, post
 use Rattle.request_slots.specs.Passes.{takes_on, tries, strikes}
 use Rattle.request_slots.specs.Standing.{Machine, Standing, newcomer, FrontHolds}
 use Rattle.request_slots.specs.Changes.{leaving_calls, seeing, Meets, ShowsLine, Collected}
-use Rattle.request_slots.specs.Views.{untold, with_standing, known_of, pass_in, locking, passing, committing, unlocking, adopting, IsSpare}
+use Rattle.request_slots.specs.Views.{untold, with_standing, known_of, pass_in, locking, passing, committing, entering_line, unlocking, adopting, IsSpare}
 
 -- a seat: its view, and the slots in its hand
 abbrev pub Sat : Type 0
@@ -71,6 +71,11 @@ Skips st m found m' = (i : ℕ) → st.word ≡ own_word i
 -- the line becomes this one, with these outcomes
 abbrev pub Commits : List Entry → List Outcome → Step Slot → Sat → ℕ → Sat → Type 0
 Commits line outcomes st m found m' = m' ≡ (Caller (committing (known_of m.0) (pass_in (known_of m.0)) line outcomes), m.1)
+
+-- the line becomes this one, with calls of the caller that has the desk alone
+abbrev pub Enters : List Entry → Step Slot → Sat → ℕ → Sat → Type 0
+Enters line st m found m' =
+    (m' ≡ (Caller (entering_line (known_of m.0) line), m.1)) × FrontHolds (st.slots - 1) (entering_line (known_of m.0) line).standing
 
 -- the outcome in the hand goes home
 abbrev pub Tells : Step Slot → Sat → ℕ → Sat → Type 0

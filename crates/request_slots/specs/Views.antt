@@ -1,9 +1,11 @@
 -- What a seat knows, and how each step changes it: the words of the contracts of the steps.
 -- `Known` is a `Standing`, what another caller has told, and the pass of the caller that has the desk; what a function does not name
 -- stays as it was. What steps do to a standing is in `Changes`.
-use Rattle.std.specs.Prelude.{◌≡◌, ℕ, ◌+◌, ◌≤◌, List, [], length, Option, Some, None, vec_capacity}
+use Rattle.std.specs.Prelude.{◌≡◌, ◌≢◌, ℕ, ◌+◌, ◌≤◌, List, [], length, Option, Some, None, vec_capacity}
 use Rattle.call_history.specs.declared.entry.Entry.{Entry}
 use Rattle.call_history.specs.declared.request.Outcome.{Outcome}
+use Rattle.call_history.specs.History.{Begins}
+use Rattle.call_history.specs.Callers.{calls_by}
 use Rattle.request_slots.specs.declared.desk.Desk.{Desk}
 use Rattle.request_slots.specs.declared.known.Pass.{Pass}
 use Rattle.request_slots.specs.declared.known.Known.{Known}
@@ -11,7 +13,7 @@ use Rattle.request_slots.specs.declared.known.View.{View}
 use Rattle.request_slots.specs.declared.known.View.TheVariants.{Maker, Newcomer, Caller, Bare, Spent}
 use Rattle.request_slots.specs.Passes.{is_in, fresh_pass, commits}
 use Rattle.request_slots.specs.Standing.{Standing, nowhere, newcomer}
-use Rattle.request_slots.specs.Changes.{longer, seeing, holding, noting, settling}
+use Rattle.request_slots.specs.Changes.{longer, seeing, holding, noting, entering, settling}
 
 -- a caller that stands so was told nothing, and does not have the desk
 abbrev pub untold : Standing → Known
@@ -60,6 +62,10 @@ passing c p = record c { pass = Some p }
 abbrev pub committing : Known → Pass → List Entry → List Outcome → Known
 committing c p line outcomes = record c { standing = noting c.standing (length p.taken); pass = Some (commits p line outcomes) }
 
+-- it enters calls of its own, and this is the line then
+abbrev pub entering_line : Known → List Entry → Known
+entering_line c line = record c { standing = entering c.standing line; pass = Some (fresh_pass line) }
+
 -- it gives the desk back
 abbrev pub unlocking : Known → Pass → Known
 unlocking c p = record c { standing = settling c.standing p.line (is_in p.tried c.standing.number); pass = None }
@@ -78,6 +84,11 @@ pub record IsSpare (slots : ℕ) (d : Desk) : Type 0 where
   pub no_outcomes : d.outcomes.items ≡ []
   pub request_spaces : slots ≤ vec_capacity d.requests + 1
   pub outcome_spaces : slots ≤ vec_capacity d.outcomes + 1
+
+-- the line goes on with calls of this caller alone
+pub record IsEntered (k : ℕ) (line line' : List Entry) : Type 0 where
+  pub grows : Begins line line'
+  pub others : (i : ℕ) → i ≢ k → calls_by i line' ≡ calls_by i line
 
 -- the maker goes on to the next caller
 abbrev pub next_maker : View → View

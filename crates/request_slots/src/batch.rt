@@ -1,9 +1,9 @@
-//! What a commit brings, as a type that the proof of each commit picks.
+//! What a commit or an entry brings, as a type that the proof of each picks.
 
 ghost use Rattle.std.specs.Prelude.{List, []};
 ghost use Rattle.call_history.specs.declared.entry.Entry.{Entry};
 ghost use Rattle.call_history.specs.declared.request.Outcome.{Outcome};
-ghost use Rattle.request_slots.specs.Events.{Commits};
+ghost use Rattle.request_slots.specs.Events.{Commits, Enters};
 
 use crate::desk::Slot;
 use crate::known::View;
@@ -29,4 +29,12 @@ pub(crate) struct Commit<B: Batch> {
 
 impl<B: Batch> Play<Slot, View> for Commit<B> {
     ghost then = { Commits B.line B.outcomes };
+}
+
+pub(crate) struct Enter<B: Batch> {
+    batch: PhantomData<B>,
+}
+
+impl<B: Batch> Play<Slot, View> for Enter<B> {
+    ghost then = { Enters B.line };
 }

@@ -3,6 +3,7 @@
 mod answer;
 mod collect;
 mod commit;
+mod enter;
 mod lock;
 mod look;
 mod post;

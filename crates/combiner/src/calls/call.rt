@@ -4,6 +4,7 @@ ghost use Rattle.combiner.specs.Standing.{IsIdle, Rests};
 ghost use Rattle.combiner.specs.Says.{IsAnsweredTo, KeepsNotes};
 
 use crate::caller::Caller;
+use crate::own::run_own;
 use crate::shared::Shared;
 use cvl_text::{Call, Reply};
 use std::alloc::Global;
@@ -12,8 +13,9 @@ use std::thread::Threads;
 use vector_memory::OutOfMemory;
 
 impl Shared {
-    /// Leaves a call, and serves and asks until it is answered: the place of its entry, counted from 0, and the reply. For want
-    /// of memory the call comes back, and stands in no history.
+    /// Runs a call at once if the book is free, and serves what others left, and else leaves it, and serves and asks until it is
+    /// answered: the place of its entry, counted from 0, and the reply. For want of memory the call comes back, and stands in no
+    /// history.
     pub fn call(
         &self,
         rt: &(impl Threads + Wait + Sync),
@@ -34,7 +36,13 @@ impl Shared {
         ensures back { IfErr result (λ refused. refused.0 ≡ call) }
         ensures record_kept { OnErr result (caller.new.own ≡ caller.old.own) }
     {
-        self.leave(caller, call);
-        self.wait(rt, alloc, caller)
+        let seat = &mut caller.seat;
+        match run_own(rt, alloc, &self.slots, seat, self.callers, call) {
+            Ok(ran) => ran,
+            Err(call) => {
+                self.leave(caller, call);
+                self.wait(rt, alloc, caller)
+            }
+        }
     }
 }

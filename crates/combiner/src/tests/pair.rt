@@ -79,3 +79,15 @@ fn post_under_lock(rt: HostRuntime) -> Result<(), Fail> {
     assert!(rt; polls(rt.alloc(), &shared, &mut first, 1, b"z 1"));
     Ok(())
 }
+
+/// A call that finds the book free runs before what others left, and serves it.
+#[test]
+fn call_serves_what_was_left(rt: HostRuntime) -> Result<(), Fail> {
+    let (shared, mut first, mut second) = two(rt.alloc()).ok_or("memory")?;
+    assert!(rt; posts(rt.alloc(), &shared, &mut first, b"get a"));
+    assert!(rt; calls(&rt, rt.alloc(), &shared, &mut second, b"a = z 1", 0, b"ok"));
+    assert!(rt; polls(rt.alloc(), &shared, &mut first, 1, b"z 1"));
+    let book = shared.close(first)?;
+    assert!(rt; book.len() == 2 && stands_at(&book, 0, 1, 0) && stands_at(&book, 1, 0, 0));
+    Ok(())
+}

@@ -1,49 +1,25 @@
-use Rattle.std.proofs.Common.{rules, arith, ◌≡◌, ℕ, length, refl, ap, sym, subst, ◌∙◌}
+use Rattle.std.proofs.Common.{rules, arith, ◌≡◌, ◌<◌, ap, sym, subst, ◌∙◌}
 use Rattle.call_history.specs.History.{Begins}
-use Rattle.combiner.specs.Passes.{IsBatch, HasServed}
+use Rattle.request_slots.specs.declared.known.Known.{Known}
+use Rattle.request_slots.specs.Views.{pass_in, passing, locking}
 use Rattle.combiner.specs.Serving.{ServesBatch}
-use Rattle.combiner.proofs.Batches.{batch_pairs, few_waves, pass_batch}
-use Rattle.combiner.proofs.PassSteps.{taking_batch, pass_serves}
+use Rattle.combiner.proofs.PassSteps.{desk_ready, serve_past}
 use Rattle.combiner.proofs.pass.pass.Goals as goal
 
-pub run_batch-ran-requires-clause-lawful : goal.run_batch-ran-requires-clause-lawful
-run_batch-ran-requires-clause-lawful g c κs within =
-    let same : c.deref_mut-open.result.now.requests.items ≡ c.take_all.new.requests.items = search rules in
-    (subst (IsBatch c.args.callers) (sym same) (taking_batch _ _ c.args.callers _ _ c.requires.callers.1 c.take_all.ensures.taken)).lawful
-
-pub run_batch-ran-requires-clause-distinct : goal.run_batch-ran-requires-clause-distinct
-run_batch-ran-requires-clause-distinct g c κs within =
-    let same : c.deref_mut-open.result.now.requests.items ≡ c.take_all.new.requests.items = search rules in
-    batch_pairs _ (subst (IsBatch c.args.callers) (sym same) (taking_batch _ _ c.args.callers _ _ c.requires.callers.1 c.take_all.ensures.taken)).distinct
+pub serve-requires-clause-ready : goal.serve-requires-clause-ready
+serve-requires-clause-ready g c κs within =
+    let inside = c.in_ok-desk.ensures.inside in let size = c.requires.callers.0 in
+    let won : c.step_lock.new.seat ≡ locking c.args.seat.now c.in_ok-desk.desk.value.book.history = c.in_ok-desk.ensures.won in
+    desk_ready c.args.callers c.step_lock.new.seat c.take_all.new.seat c.in_ok-desk.desk.value.book.history _ _ _ c.take_all.ensures.taken
+    (subst (λ (k : Known). k.standing.number < c.args.callers) (sym won) (omega arith)) (ap (λ (k : Known). k.standing.held) won)
+    (subst (λ (k : Known). Begins k.standing.seen c.in_ok-desk.desk.value.book.history) (sym won) c.in_ok-desk.ensures.line.begins) (ap (λ (k : Known). (pass_in k).line) won)
+    (search rules) (search rules) (search rules) (search rules) (search rules) (search rules)
 
 pub returns-clause-served : goal.returns-clause-served
-returns-clause-served g c =
-    let inside = c.in_ok-desk.ensures.inside in let size = c.requires.callers.0 in
-    let count : c.len-count.result ≡ length c.take_all.new.requests.items = search rules in
-    let line : c.deref_mut-open.result.now.book.history ≡ c.in_ok-desk.desk.value.book.history = search rules in
-    let now : c.deref-2.result.now.book.history ≡ c.run_batch-ran.new.book.history = search rules in
-    let grows : Begins c.in_ok-desk.desk.value.book.history c.deref-2.result.now.book.history =
-    subst (λ l. Begins l c.deref-2.result.now.book.history) line (subst (Begins c.deref_mut-open.result.now.book.history) (sym now) c.run_batch-ran.ensures.serves.fits.grows) in
-    subst (HasServed c.args.seat.now c.step_unlock.new.seat) (sym count)
-    (pass_serves c.args.callers c.args.seat.now c.step_lock.new.seat c.take_all.new.seat c.step_commit.new.seat c.answer_all.new.seat c.step_unlock.new.seat
-    c.in_ok-desk.desk.value.book.history c.deref-2.result.now.book.history c.deref-2.result.now.outcomes.items c.take_all.new.requests.items c.take_all.new.numbers
-    c.in_ok-desk.ensures.won c.take_all.ensures.taken grows c.step_commit.ensures.known c.answer_all.ensures.told c.step_unlock.ensures.known (omega arith) c.in_ok-desk.ensures.line.begins)
+returns-clause-served g c = serve_past c.args.seat.now c.step_lock.new.seat c.take_all.new.seat c.serve.new.seat c.in_ok-desk.desk.value.book.history c.serve.result.0 c.in_ok-desk.ensures.won c.take_all.ensures.taken.now_is c.serve.ensures.served
 
 pub returns-clause-batch : goal.returns-clause-batch
 returns-clause-batch g c =
-    let ran = c.run_batch-ran.ensures in
-    let inside = c.in_ok-desk.ensures.inside in let size = c.requires.callers.0 in
-    let batch = taking_batch _ _ c.args.callers _ _ c.requires.callers.1 c.take_all.ensures.taken in
-    let same : c.deref_mut-open.result.now.requests.items ≡ c.take_all.new.requests.items = search rules in
-    let taken : IsBatch c.args.callers c.deref_mut-open.result.now.requests.items = subst (IsBatch c.args.callers) (sym same) batch in
-    let count : c.len-count.result ≡ length c.take_all.new.requests.items = search rules in
-    let line : c.deref_mut-open.result.now.book.history ≡ c.in_ok-desk.desk.value.book.history = search rules in
-    let room : c.deref_mut-open.result.now.book.room ≡ c.args.seat.now.standing.room = search rules in
-    let seen : c.step_unlock.new.seat.standing.seen ≡ c.run_batch-ran.new.book.history = search rules in
-    subst (λ (z : ℕ). ServesBatch z c.args.callers c.args.seat.now.standing.seen c.step_unlock.new.seat.standing.seen c.len-count.result c.run_batch-ran.result.waves c.run_batch-ran.result.kernels) room
-    (pass_batch c.deref_mut-open.result.now.book.room c.args.callers c.len-count.result c.args.seat.now.standing.seen c.deref_mut-open.result.now.book.history c.run_batch-ran.new.book.history
-    c.step_unlock.new.seat.standing.seen c.deref_mut-open.result.now.requests.items c.run_batch-ran.new.outcomes.items c.run_batch-ran.result _ refl refl
-    (subst (Begins c.args.seat.now.standing.seen) (sym line) c.in_ok-desk.ensures.line.begins) seen (ap length same ∙ sym count) taken.distinct taken.inside ran.serves ran.waves ran.sure ran.bound ran.few_singles)
-
-pub returns-clause-few_waves : goal.returns-clause-few_waves
-returns-clause-few_waves g c = few_waves (returns-clause-batch g c)
+    let second : c.take_all.new.seat ≡ passing (locking c.args.seat.now c.in_ok-desk.desk.value.book.history) (pass_in c.take_all.new.seat) =
+    c.take_all.ensures.taken.now_is ∙ ap (λ (k : Known). passing k (pass_in c.take_all.new.seat)) c.in_ok-desk.ensures.won in
+    subst (λ (k : Known). ServesBatch k.standing.room c.args.callers k.standing.seen c.serve.new.seat.standing.seen c.serve.result.0 c.serve.result.1.waves c.serve.result.1.kernels) second c.serve.ensures.batch

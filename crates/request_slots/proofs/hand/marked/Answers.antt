@@ -1,4 +1,4 @@
-use Rattle.std.proofs.Common.{◌≡◌, ◌+◌, ◌∙◌, ap, take, refl, sym, arith, false, slice_index_or}
+use Rattle.std.proofs.Common.{◌+◌, ◌∙◌, ap, refl, sym, arith, false}
 use Rattle.std.proofs.lemmas.List.{take_all}
 use Rattle.std.proofs.lemmas.List.Sums.{count_by_more_no, count_by_more_yes}
 use Rattle.std.specs.List.{count_by}

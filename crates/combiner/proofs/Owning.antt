@@ -1,0 +1,35 @@
+-- A caller that runs its own call while it has the book.
+-- `own_entered` is its entry, and `own_runs` what it answers.
+use Rattle.std.proofs.Common.{◌≡◌, ℕ, ◌+◌, List, [], ◌∷◌, ◌++◌, length, append-nil, sym, ap, ◌∙◌, subst, length-append}
+use Rattle.cvl_text.specs.declared.call.Call.{Call}
+use Rattle.cvl_text.specs.declared.reply.Reply.{Reply}
+use Rattle.cvl_text.specs.Answers.{Answer, answer_of}
+use Rattle.call_history.specs.declared.entry.Entry.{Entry}
+use Rattle.call_history.specs.History.{Begins, reply_after}
+use Rattle.call_history.specs.Callers.{calls_by, next_entry}
+use Rattle.call_history.specs.Answers.{Answers}
+use Rattle.call_history.proofs.CallerLemmas.{calls_by-append, calls_by-other}
+use Rattle.call_history.proofs.Serving.{answers-from_run}
+use Rattle.request_slots.specs.declared.known.Known.{Known}
+use Rattle.request_slots.specs.Views.{entering_line, IsEntered}
+use Rattle.combiner.specs.Own.{HasRun}
+
+-- one more entry of a caller is no other caller's
+pub own_entered : (k : ℕ) (call : Call) (line line' : List Entry) → line' ≡ line ++ next_entry line k call ∷ [] → IsEntered k line line'
+own_entered k call line line' is = record {
+  grows = (next_entry line k call ∷ [], is);
+  others = λ i other. ap (calls_by i) is ∙ (calls_by-append i line (next_entry line k call ∷ [])
+      ∙ (ap (λ l. calls_by i line ++ l) (calls_by-other i k (length (calls_by k line)) call (λ e. other (sym e))) ∙ append-nil (calls_by i line)));
+}
+
+-- and answers it
+pub own_runs : (call : Call) (c k : Known) (room : ℕ) (line line' : List Entry) (place : ℕ) (reply : Reply) → line' ≡ line ++ next_entry line c.standing.number call ∷ [] → place ≡ length line
+    → answer_of reply ≡ reply_after room line call → room ≡ c.standing.room → Begins c.standing.seen line → calls_by c.standing.number line ≡ c.standing.own → k ≡ entering_line c line' → HasRun call c k place reply
+own_runs call c k room line line' place reply is at says room_is saw had now = record {
+  line = line';
+  now_is = now;
+  ends_there = ap length is ∙ (length-append line (next_entry line c.standing.number call ∷ []) ∙ ap (λ (n : ℕ). n + 1) (sym at));
+  answers = subst (λ (z : ℕ × (List Entry) × Answer). Answers z.0 c.standing.seen c.standing.own c.standing.number (call ∷ []) z.1 (z.2 ∷ []))
+      (λ i. (room_is i, sym is i, sym says i))
+      (answers-from_run room c.standing.seen line c.standing.own c.standing.number (length (calls_by c.standing.number line)) call saw had);
+}

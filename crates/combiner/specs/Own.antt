@@ -1,0 +1,39 @@
+-- A call that runs while its caller has the book.
+-- `HasRun` is the call and its entry, `GoesOn` what a caller knows while others are served, and `IsEnded` what it knows where a call
+-- of its own ends.
+use Rattle.std.specs.Prelude.{◌≡◌, ℕ, ◌+◌, List, [], ◌∷◌, length}
+use Rattle.cvl_text.specs.declared.call.Call.{Call}
+use Rattle.cvl_text.specs.declared.reply.Reply.{Reply}
+use Rattle.cvl_text.specs.Answers.{answer_of}
+use Rattle.call_history.specs.declared.entry.Entry.{Entry}
+use Rattle.call_history.specs.History.{Begins}
+use Rattle.call_history.specs.Answers.{Answers}
+use Rattle.request_slots.specs.declared.known.Known.{Known}
+use Rattle.request_slots.specs.Views.{entering_line}
+use Rattle.combiner.specs.Standing.{Standing, IsIdle}
+use Rattle.combiner.specs.Says.{KeepsNotes}
+
+-- The call stands last in the history, at this place, and has this reply there. The history is the one committed, and answers the
+-- call to its caller.
+pub record HasRun (call : Call) (before now : Known) (place : ℕ) (reply : Reply) : Type 0 where
+  pub line : List Entry
+  pub now_is : now ≡ entering_line before line
+  pub ends_there : length line ≡ place + 1
+  pub answers : Answers before.standing.room before.standing.seen before.standing.own before.standing.number (call ∷ []) line (answer_of reply ∷ [])
+
+-- what a caller left and what was answered to it stay, and it sees no less
+pub record GoesOn (c d : Standing) : Type 0 where
+  pub number : d.number ≡ c.number
+  pub room : d.room ≡ c.room
+  pub phase : d.phase ≡ c.phase
+  pub own : d.own ≡ c.own
+  pub later : Begins c.seen d.seen
+  pub notes : KeepsNotes c d
+
+-- where a call ends its caller is idle, and sees no less
+pub record IsEnded (c d : Standing) : Type 0 where
+  pub number : d.number ≡ c.number
+  pub room : d.room ≡ c.room
+  pub idle : IsIdle d
+  pub later : Begins c.seen d.seen
+  pub notes : KeepsNotes c d

@@ -1,0 +1,112 @@
+//! A call of a caller that finds the book free: it runs at once, on no slot, and what others left is served behind it.
+
+ghost use Rattle.std.specs.Prelude.{◌≡◌, ◌+◌, ◌<◌, ◌≤◌, true, Some, None, IfOk, IfErr, OnOk, OnErr};
+ghost use Rattle.call_history.specs.Callers.{caller_limit, calls_by};
+ghost use Rattle.call_history.specs.History.{Begins};
+ghost use Rattle.request_slots.specs.Passes.{fresh_pass};
+ghost use Rattle.request_slots.specs.Views.{pass_in, with_standing, IsSpare};
+ghost use Rattle.combiner.specs.Standing.{IsIdle, IsResting, callers_of, Rests, IsOfCallers};
+ghost use Rattle.combiner.specs.Says.{MeetsAnother, IsAnsweredTo};
+ghost use Rattle.combiner.specs.Own.{HasRun, GoesOn, IsEnded};
+
+use crate::pass::{serve, take_all};
+use call_history::Book;
+use cvl_text::{Call, Reply};
+use request_slots::{Desk, Seat, Slots};
+use scan_kernels::Execution;
+use std::alloc::Global;
+use vector_memory::OutOfMemory;
+
+/// Runs a call of the caller that has the desk, and commits it.
+fn enter(
+    execution: &impl Execution,
+    alloc: Global,
+    slots: &Slots,
+    seat: &mut Seat,
+    book: &mut Book,
+    call: Call,
+) -> Result<(u64, Reply), (Call, OutOfMemory)>
+    requires place { seat.old.standing.machine ≡ slots.now }
+    requires idle { IsIdle seat.old.standing }
+    requires fresh { seat.old.pass ≡ Some (fresh_pass book.old.history) }
+    requires number { seat.old.standing.number < caller_limit }
+    requires room { book.old.room ≡ seat.old.standing.room }
+    requires begins { Begins seat.old.standing.seen book.old.history }
+    requires own { calls_by seat.old.standing.number book.old.history ≡ seat.old.standing.own }
+    ensures place { seat.new.standing.machine ≡ slots.now }
+    ensures ran { IfOk result (λ answer. HasRun call seat.old seat.new answer.0 answer.1) }
+    ensures fresh { seat.new.pass ≡ Some (fresh_pass book.new.history) }
+    ensures begins { Begins seat.new.standing.seen book.new.history }
+    ensures room { book.new.room ≡ book.old.room }
+    ensures back { IfErr result (λ refused. refused.0 ≡ call) }
+    ensures kept { OnErr result (seat.new ≡ seat.old) }
+{
+    let answer = book.run(execution, alloc, seat.number() as u64, call)?;
+    slots.step_enter(seat, book);
+    Ok(answer)
+}
+
+/// Serves what others left, and gives the desk back.
+fn serve_left(
+    execution: &impl Execution,
+    alloc: Global,
+    slots: &Slots,
+    seat: &mut Seat,
+    callers: usize,
+    mut desk: Box<Desk>,
+)
+    requires place { seat.old.standing.machine ≡ slots.now }
+    requires callers { (callers + 1 ≡ slots.now.slots) × (callers ≤ 64) }
+    requires fresh { seat.old.pass ≡ Some (fresh_pass desk.value.book.history) }
+    requires held { seat.old.standing.held ≡ true }
+    requires inside { seat.old.standing.number < callers }
+    requires begins { Begins seat.old.standing.seen desk.value.book.history }
+    requires room { desk.value.book.room ≡ seat.old.standing.room }
+    requires spare { IsSpare slots.now.slots desk.value }
+    ensures place { seat.new.standing.machine ≡ slots.now }
+    ensures goes_on { GoesOn seat.old.standing seat.new.standing }
+    ensures no_desk { seat.new.pass ≡ None }
+    ensures rests { Rests seat.new.standing }
+    ensures no_strangers { IsOfCallers (callers_of seat.new.standing.machine) seat.new.standing.seen }
+{
+    let mut numbers = [0u8; 64];
+    take_all(slots, seat, callers, &mut desk.requests, &mut numbers);
+    if desk.requests.is_empty() {
+        slots.step_unlock(seat, desk);
+    } else {
+        serve(execution, alloc, slots, seat, callers, &numbers, desk);
+    }
+}
+
+/// Runs a call of an idle caller, unless another caller has the desk: then the call comes back as the outer error, and nothing
+/// changes.
+pub(crate) fn run_own(
+    execution: &impl Execution,
+    alloc: Global,
+    slots: &Slots,
+    seat: &mut Seat,
+    callers: usize,
+    call: Call,
+) -> Result<Result<(u64, Reply), (Call, OutOfMemory)>, Call>
+    requires place { seat.old.standing.machine ≡ slots.now }
+    requires callers { (callers + 1 ≡ slots.now.slots) × (callers ≤ 64) }
+    requires idle { IsIdle seat.old.standing }
+    requires no_desk { seat.old.pass ≡ None }
+    ensures place { seat.new.standing.machine ≡ slots.now }
+    ensures ended { OnOk result (IsEnded seat.old.standing seat.new.standing) }
+    ensures resting { OnOk result (IsResting seat.new) }
+    ensures answered { IfOk result (λ ran. IfOk ran (λ answer.
+        IsAnsweredTo call seat.old.standing seat.new.standing answer.0 answer.1)) }
+    ensures back { IfOk result (λ ran. IfErr ran (λ refused. refused.0 ≡ call)) }
+    ensures record_kept { IfOk result (λ ran. OnErr ran (seat.new.standing.own ≡ seat.old.standing.own)) }
+    ensures handed_back { IfErr result (λ back. back ≡ call) }
+    ensures busy { OnErr result (MeetsAnother seat.old.standing seat.new.standing) }
+    ensures only_met { OnErr result (seat.new ≡ with_standing seat.old seat.new.standing) }
+{
+    let Some(mut desk) = slots.step_lock(seat) else {
+        return Err(call);
+    };
+    let ran = enter(execution, alloc, slots, seat, &mut desk.book, call);
+    serve_left(execution, alloc, slots, seat, callers, desk);
+    Ok(ran)
+}
