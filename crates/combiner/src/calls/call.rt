@@ -4,6 +4,7 @@ ghost use Rattle.combiner.specs.Standing.{IsIdle, Rests};
 ghost use Rattle.combiner.specs.Says.{IsAnsweredTo, KeepsNotes};
 
 use crate::caller::Caller;
+use crate::calls::wait::FIRST_PAUSE;
 use crate::own::run_own;
 use crate::shared::Shared;
 use cvl_text::{Call, Reply};
@@ -13,7 +14,7 @@ use std::thread::Threads;
 use vector_memory::OutOfMemory;
 
 impl Shared {
-    /// Runs a call at once if the book is free, and serves what others left, and else leaves it, and serves and asks until it is
+    /// Runs a call at once if the book is free, and serves what others left, and else leaves it, and asks and serves until it is
     /// answered: the place of its entry, counted from 0, and the reply. For want of memory the call comes back, and stands in no
     /// history.
     pub fn call(
@@ -41,7 +42,7 @@ impl Shared {
             Ok(ran) => ran,
             Err(call) => {
                 self.leave(caller, call);
-                self.wait(rt, alloc, caller)
+                self.ask(rt, alloc, caller, FIRST_PAUSE)
             }
         }
     }

@@ -15,12 +15,12 @@ use vector_memory::OutOfMemory;
 
 /// How many turns of its own loop a caller lets pass between two tries, at first: some microseconds. Each try takes the lines of
 /// lock and words from the caller that serves, so tries are far apart.
-const FIRST_PAUSE: u32 = 512;
+pub(crate) const FIRST_PAUSE: u32 = 1024;
 /// And at most.
-const LAST_PAUSE: u32 = 2048;
+const LAST_PAUSE: u32 = 4096;
 
 impl Shared {
-    /// Serves and asks until the call that the caller left is answered: the place of its entry, counted from 0, and the reply.
+    /// Asks and serves until the call that the caller left is answered: the place of its entry, counted from 0, and the reply.
     /// For want of memory the call comes back, and stands in no history.
     pub fn wait(
         &self,
@@ -41,33 +41,65 @@ impl Shared {
         ensures back { IfErr result (λ refused. IsWhatWasLeft caller.old refused.0) }
         ensures record_kept { OnErr result (caller.new.own ≡ caller.old.own) }
     {
-        let mut turns = FIRST_PAUSE;
+        self.ask(rt, alloc, caller, 0)
+    }
+
+    /// `wait`, of a caller that first lets so many turns pass.
+    pub(crate) fn ask(
+        &self,
+        rt: &(impl Threads + Wait + Sync),
+        alloc: Global,
+        caller: &mut Caller,
+        first: u32,
+    ) -> Result<(u64, Reply), (Call, OutOfMemory)>
+        requires machine { caller.old.machine ≡ self.now }
+        requires left { HasLeft caller.old }
+        ensures machine { caller.new.machine ≡ self.now }
+        ensures number { caller.new.number ≡ caller.old.number }
+        ensures room { caller.new.room ≡ caller.old.room }
+        ensures idle { IsIdle caller.new }
+        ensures later { Begins caller.old.seen caller.new.seen }
+        ensures rests { Rests caller.new }
+        ensures notes { KeepsNotes caller.old caller.new }
+        ensures answered { IfOk result (λ answer. IsAnsweredAtLast caller.old caller.new answer.0 answer.1) }
+        ensures back { IfErr result (λ refused. IsWhatWasLeft caller.old refused.0) }
+        ensures record_kept { OnErr result (caller.new.own ≡ caller.old.own) }
+    {
+        let mut turns = first;
         for _ in rt.forever() {
-            let combined = self.combine(rt, alloc, caller);
-            turns = paused(&combined, turns);
+            pause(turns);
             match self.poll(caller) {
                 Polled::Answered { place, reply } => return Ok((place, reply)),
                 Polled::OutOfMemory(call) => return Err((call, OutOfMemory)),
                 Polled::Waiting => {}
                 Polled::Idle => unreachable!(),
             }
+            turns = match self.combine(rt, alloc, caller) {
+                Combined::Busy => longer(turns),
+                Combined::Served { .. } => 0,
+            };
         }
         unreachable!()
     }
 }
 
-// Where another caller has the book, lets so many turns pass, and hands the processor on where that is the longest pause.
-// How many are next: twice as many.
-fn paused(combined: &Combined, turns: u32) -> u32 {
-    if let Combined::Served { .. } = combined {
-        return turns;
-    }
+// Lets so many turns pass, and hands the processor on where that is the longest pause.
+fn pause(turns: u32) {
     for _ in 0..turns {
         hint::spin_loop();
+    }
+    if turns == LAST_PAUSE {
+        thread::yield_now();
+    }
+}
+
+// How many turns follow on so many, where another caller has the book: twice as many.
+fn longer(turns: u32) -> u32 {
+    if turns < FIRST_PAUSE {
+        return FIRST_PAUSE;
     }
     if turns < LAST_PAUSE {
         return 2 * turns;
     }
-    thread::yield_now();
     LAST_PAUSE
 }
