@@ -10,6 +10,8 @@ use vector_memory::OutOfMemory;
 #[derive(Drop)]
 pub struct Caller {
     pub(crate) seat: Seat,
+    /// Whether it served when it last called. Then it tries the lock before it leaves a call.
+    pub(crate) leads: bool,
 }
 
 impl Model for Caller {
@@ -42,7 +44,7 @@ impl Caller {
         requires { IsNewSeat seat }
         ensures { result ≡ standing seat }
     {
-        Caller { seat }
+        Caller { seat, leads: true }
     }
 }
 

@@ -65,7 +65,7 @@ impl Shared {
         ensures not_alone { OnErr result (1 < callers_of self) }
     {
         let Shared { slots, callers: _ } = self;
-        let Caller { seat } = caller;
+        let Caller { seat, leads: _ } = caller;
         let Some(desk) = slots.close(seat) else {
             return Err(Unfinished);
         };

@@ -15,8 +15,9 @@ use vector_memory::OutOfMemory;
 
 impl Shared {
     /// Runs a call at once if the book is free, and serves what others left, and else leaves it, and asks and serves until it is
-    /// answered: the place of its entry, counted from 0, and the reply. For want of memory the call comes back, and stands in no
-    /// history.
+    /// answered: the place of its entry, counted from 0, and the reply. A caller whose last call was served by another leaves its
+    /// call first, and tries for the book only if nobody serves it in some microseconds. For want of memory the call comes back,
+    /// and stands in no history.
     pub fn call(
         &self,
         rt: &(impl Threads + Wait + Sync),
@@ -37,13 +38,16 @@ impl Shared {
         ensures back { IfErr result (λ refused. refused.0 ≡ call) }
         ensures record_kept { OnErr result (caller.new.own ≡ caller.old.own) }
     {
-        let seat = &mut caller.seat;
-        match run_own(rt, alloc, &self.slots, seat, self.callers, call) {
-            Ok(ran) => ran,
-            Err(call) => {
-                self.leave(caller, call);
-                self.ask(rt, alloc, caller, FIRST_PAUSE)
+        let mut call = call;
+        if caller.leads {
+            let seat = &mut caller.seat;
+            match run_own(rt, alloc, &self.slots, seat, self.callers, call) {
+                Ok(ran) => return ran,
+                Err(back) => call = back,
             }
         }
+        caller.leads = false;
+        self.leave(caller, call);
+        self.ask(rt, alloc, caller, FIRST_PAUSE)
     }
 }

@@ -44,6 +44,7 @@ impl Shared {
         ) else {
             return Combined::Busy;
         };
+        caller.leads = true;
         Combined::Served {
             calls: count as u64,
             waves: ran.waves,

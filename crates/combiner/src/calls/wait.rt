@@ -15,9 +15,9 @@ use vector_memory::OutOfMemory;
 
 /// How many turns of its own loop a caller lets pass between two tries, at first: some microseconds. Each try takes the lines of
 /// lock and words from the caller that serves, so tries are far apart.
-pub(crate) const FIRST_PAUSE: u32 = 1024;
+pub(crate) const FIRST_PAUSE: u32 = 512;
 /// And at most.
-const LAST_PAUSE: u32 = 4096;
+const LAST_PAUSE: u32 = 2048;
 
 impl Shared {
     /// Asks and serves until the call that the caller left is answered: the place of its entry, counted from 0, and the reply.
