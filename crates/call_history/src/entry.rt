@@ -11,4 +11,4 @@ pub struct Entry {
 }
 
 /// A long history is made of entries, so their size is what a call costs in memory beyond its own items.
-const _: () = prove!(size_of::<Entry>() == 104);
+const _: () = prove!(size_of::<Entry>() == 80);

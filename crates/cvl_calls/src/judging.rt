@@ -59,20 +59,8 @@ fn by_shape<'a>(alloc: Global, memory: &'a Memory, call: &'a Call) -> Result<Jud
     ensures answered { tests_index (task_of call.now).word ≡ false → IsDecided result }
 {
     match call {
-        Call::Smp {
-            kind,
-            a,
-            i,
-            s: None,
-            ..
-        } => permute(alloc, memory, *kind, a, i),
-        Call::Smp {
-            kind,
-            a,
-            i,
-            s: Some(s),
-            ..
-        } => permute_segments(alloc, memory, *kind, a, i, s),
+        Call::Smp { kind, a, i, .. } => permute(alloc, memory, *kind, a, i),
+        Call::SmpSeg { kind, a, i, s, .. } => permute_segments(alloc, memory, *kind, a, i, s),
         _ => Ok(judge_at_once(memory, call)?),
     }
 }
@@ -144,27 +132,15 @@ fn judge_at_once<'a>(memory: &'a Memory, call: &'a Call) -> Result<Judged<'a>, F
             kind,
             a,
             s,
-            i,
-            t,
+            index,
             ..
-        } => gather_segments(memory, *kind, a, s, i, t),
-        Call::Pck {
-            kind,
-            a,
-            f,
-            s: None,
-            ..
-        } => pack(memory, *kind, a, f),
-        Call::Pck {
-            kind,
-            a,
-            f,
-            s: Some(s),
-            ..
-        } => pack_segments(memory, *kind, a, f, s),
+        } => gather_segments(memory, *kind, a, s, &index.i, &index.t),
+        Call::Pck { kind, a, f, .. } => pack(memory, *kind, a, f),
+        Call::PckSeg { kind, a, f, s, .. } => pack_segments(memory, *kind, a, f, s),
         Call::Pkl { f, s, .. } => pack_lengths(memory, f, s),
         Call::Ext { a, p } => extract(memory, a, *p),
         Call::Rep { a, p, x, .. } => replace(memory, a, *p, *x),
         Call::Smp { .. } => unreachable!(),
+        Call::SmpSeg { .. } => unreachable!(),
     }
 }

@@ -2,7 +2,8 @@ use crate::word::{B1, B2, Cmp, Kind, ScanB, ScanZ, Z1, Z2};
 use vector_memory::Name;
 
 /// A call: what one line asks of the machine. `to` is the name that gets the result; the other names are read. Where a
-/// segment list may be named, none stands for one segment.
+/// segment list may be named, none stands for one segment. Three names lie in place and further ones behind a pointer, so
+/// that a call takes 64 bytes.
 #[derive(Debug, Drop)]
 pub enum Call {
     /// `to = z x ..`: the integers, at most 1,048,576.
@@ -49,44 +50,44 @@ pub enum Call {
     },
     /// `to = add_wuz a b` and its kin: two vectors of integers of one length, item by item.
     MapZ2 {
-        to: Name,
         op: Z2,
+        to: Name,
         a: Name,
         b: Name,
     },
     /// `to = not_wuz a`, `to = cpy_wuz a`: the integers one by one.
     MapZ1 {
-        to: Name,
         op: Z1,
+        to: Name,
         a: Name,
     },
     /// `to = eql_wuz a b` and its kin: whether the comparison holds, item by item.
     CmpZ {
-        to: Name,
         op: Cmp,
+        to: Name,
         a: Name,
         b: Name,
     },
     /// `to = and_wub a b` and its kin: two vectors of truth values of one length, item by item.
     MapB2 {
-        to: Name,
         op: B2,
+        to: Name,
         a: Name,
         b: Name,
     },
     /// `to = not_wub a`, `to = cpy_wub a`: the truth values one by one.
     MapB1 {
-        to: Name,
         op: B1,
+        to: Name,
         a: Name,
     },
     /// `to = sel_wuz f a b`, `to = sel_wub f a b`: the item of `a` where the flag is set, else that of `b`.
     Sel {
-        to: Name,
         kind: Kind,
+        to: Name,
         f: Name,
         a: Name,
-        b: Name,
+        b: Box<Name>,
     },
     /// `to = boo_wuz a`: whether each integer is not 0.
     Boo {
@@ -101,15 +102,15 @@ pub enum Call {
     /// `to = add_suz a`, `to = add_sez a s` and their kin: at each item, what the operation makes of the items before
     /// it in its segment.
     ScanOfZ {
-        to: Name,
         op: ScanZ,
+        to: Name,
         a: Name,
         s: Option<Name>,
     },
     /// `to = and_sub a`, `to = and_seb a s` and their kin: the same of truth values.
     ScanOfB {
-        to: Name,
         op: ScanB,
+        to: Name,
         a: Name,
         s: Option<Name>,
     },
@@ -125,15 +126,15 @@ pub enum Call {
     },
     /// `to = add_rez a s` and its kin: what the operation makes of each segment.
     RedSegZ {
-        to: Name,
         op: ScanZ,
+        to: Name,
         a: Name,
         s: Name,
     },
     /// `to = and_reb a s` and its kin: the same of truth values.
     RedSegB {
-        to: Name,
         op: ScanB,
+        to: Name,
         a: Name,
         s: Name,
     },
@@ -151,8 +152,8 @@ pub enum Call {
     },
     /// `to = dis_vez a s`, `to = dis_veb a s`: each item as often as its segment is long.
     DisSeg {
-        to: Name,
         kind: Kind,
+        to: Name,
         a: Name,
         s: Name,
     },
@@ -168,21 +169,27 @@ pub enum Call {
         to: Name,
         a: Name,
         b: Name,
-        s: Name,
+        s: Box<Name>,
     },
-    /// `to = smp_puz a i`, `to = smp_pez a i s` and their kin for truth values: each item goes to the place that the
-    /// index holds beside it, in its segment.
+    /// `to = smp_puz a i`, `to = smp_pub a i`: each item goes to the place that the index holds beside it.
     Smp {
-        to: Name,
         kind: Kind,
+        to: Name,
         a: Name,
         i: Name,
-        s: Option<Name>,
+    },
+    /// `to = smp_pez a i s`, `to = smp_peb a i s`: the same in each segment.
+    SmpSeg {
+        kind: Kind,
+        to: Name,
+        a: Name,
+        i: Name,
+        s: Box<Name>,
     },
     /// `to = bck_puz a i`, `to = bck_pub a i`: for each index the item at its place.
     Bck {
-        to: Name,
         kind: Kind,
+        to: Name,
         a: Name,
         i: Name,
     },
@@ -192,16 +199,22 @@ pub enum Call {
         to: Name,
         a: Name,
         s: Name,
-        i: Name,
-        t: Name,
+        index: Box<SegmentedIndex>,
     },
-    /// `to = pck_puz a f`, `to = pck_pez a f s` and their kin for truth values: the items whose flag is set.
+    /// `to = pck_puz a f`, `to = pck_pub a f`: the items whose flag is set.
     Pck {
-        to: Name,
         kind: Kind,
+        to: Name,
         a: Name,
         f: Name,
-        s: Option<Name>,
+    },
+    /// `to = pck_pez a f s`, `to = pck_peb a f s`: the same in each segment.
+    PckSeg {
+        kind: Kind,
+        to: Name,
+        a: Name,
+        f: Name,
+        s: Box<Name>,
     },
     /// `to = pkl_leb f s`: how many flags are set in each segment.
     Pkl {
@@ -221,4 +234,13 @@ pub enum Call {
         p: i64,
         x: i64,
     },
+}
+
+/// The index of a back permute by segments.
+#[derive(Clone, Copy, Debug)]
+pub struct SegmentedIndex {
+    /// The places.
+    pub i: Name,
+    /// Their segments.
+    pub t: Name,
 }

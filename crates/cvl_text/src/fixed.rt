@@ -5,15 +5,17 @@ ghost use Rattle.std.specs.Option.{option_map};
 ghost use Rattle.cvl_text.specs.declared.word.Word.TheVariants.{One, Two, Three, BckSeg, Alo, DisZ, DisB, Ind, Rep};
 ghost use Rattle.cvl_text.specs.Words.{words_of};
 ghost use Rattle.cvl_text.specs.Tasks.{task_of};
-ghost use Rattle.cvl_text.specs.Lines.{targeted};
+ghost use Rattle.cvl_text.specs.Lines.{Reads, targeted};
 
 use crate::arguments::{
     four_names, name_and_two_numbers, one_name, one_number, three_names, three_numbers,
     truth_and_number, two_names, two_numbers,
 };
 use crate::call::Call;
-use crate::named::{call_of_one, call_of_three, call_of_two};
+use crate::fault::ReadFault;
+use crate::named::{call_of_four, call_of_one, call_of_three, call_of_two};
 use crate::word::{Kind, OneWord, ThreeWord, TwoWord};
+use std::alloc::Global;
 use vector_memory::Name;
 
 /// One name.
@@ -35,27 +37,25 @@ pub(crate) fn two(to: Name, word: TwoWord, text: &[u8]) -> Option<Call>
 
 /// Three names.
 #[tactic(auto, unfolding(crate::specs::Lines::targeted))]
-pub(crate) fn three(to: Name, word: ThreeWord, text: &[u8]) -> Option<Call>
-    ensures { option_map task_of result ≡ targeted to (Three word) (words_of text.now) }
+pub(crate) fn three(
+    alloc: Global,
+    to: Name,
+    word: ThreeWord,
+    text: &[u8],
+) -> Result<Call, ReadFault>
+    ensures { Reads task_of result (targeted to (Three word) (words_of text.now)) }
 {
-    let (a, b, c) = three_names(text)?;
-    Some(call_of_three(to, word, a, b, c))
+    let (a, b, c) = three_names(text).ok_or(ReadFault::BadCall)?;
+    call_of_three(alloc, to, word, a, b, c)
 }
 
 /// Four names.
 #[tactic(auto, unfolding(crate::specs::Lines::targeted))]
-pub(crate) fn four(to: Name, kind: Kind, text: &[u8]) -> Option<Call>
-    ensures { option_map task_of result ≡ targeted to (BckSeg kind) (words_of text.now) }
+pub(crate) fn four(alloc: Global, to: Name, kind: Kind, text: &[u8]) -> Result<Call, ReadFault>
+    ensures { Reads task_of result (targeted to (BckSeg kind) (words_of text.now)) }
 {
-    let (a, s, i, t) = four_names(text)?;
-    Some(Call::BckSeg {
-        to,
-        kind,
-        a,
-        s,
-        i,
-        t,
-    })
+    let (a, s, i, t) = four_names(text).ok_or(ReadFault::BadCall)?;
+    call_of_four(alloc, to, kind, a, s, i, t)
 }
 
 /// A number.

@@ -26,7 +26,7 @@ mod word;
 mod words;
 mod writing;
 
-pub use call::Call;
+pub use call::{Call, SegmentedIndex};
 pub use fault::{Fault, ReadFault};
 pub use names::NamesRead;
 pub use parts::{call_word, names_read, reads, target};

@@ -1,11 +1,14 @@
 //! Calls whose arguments are names alone: the call of a word and its names.
 
-ghost use Rattle.std.specs.Prelude.{◌≡◌, [], ◌∷◌};
-ghost use Rattle.cvl_text.specs.declared.word.Word.TheVariants.{Ask, One, Two, Three};
+ghost use Rattle.std.specs.Prelude.{◌≡◌, [], ◌∷◌, Some};
+ghost use Rattle.cvl_text.specs.declared.word.Word.TheVariants.{Ask, One, Two, Three, BckSeg};
+ghost use Rattle.cvl_text.specs.Lines.{Reads};
 ghost use Rattle.cvl_text.specs.Tasks.{asking, into, task_of, vectors};
 
-use crate::call::Call;
-use crate::word::{AskWord, OneWord, ThreeWord, TwoWord};
+use crate::call::{Call, SegmentedIndex};
+use crate::fault::ReadFault;
+use crate::word::{AskWord, Kind, OneWord, ThreeWord, TwoWord};
+use std::alloc::Global;
 use vector_memory::Name;
 
 pub(crate) fn call_of_ask(word: AskWord, a: Name) -> Call
@@ -49,50 +52,75 @@ pub(crate) fn call_of_two(to: Name, word: TwoWord, a: Name, b: Name) -> Call
         TwoWord::RedSegZ(op) => Call::RedSegZ { to, op, a, s: b },
         TwoWord::RedSegB(op) => Call::RedSegB { to, op, a, s: b },
         TwoWord::DisSeg(kind) => Call::DisSeg { to, kind, a, s: b },
-        TwoWord::Smp(kind) => Call::Smp {
-            to,
-            kind,
-            a,
-            i: b,
-            s: None,
-        },
+        TwoWord::Smp(kind) => Call::Smp { kind, to, a, i: b },
         TwoWord::Bck(kind) => Call::Bck { to, kind, a, i: b },
-        TwoWord::Pck(kind) => Call::Pck {
-            to,
-            kind,
-            a,
-            f: b,
-            s: None,
-        },
+        TwoWord::Pck(kind) => Call::Pck { kind, to, a, f: b },
         TwoWord::Pkl => Call::Pkl { to, f: a, s: b },
     }
 }
 
-pub(crate) fn call_of_three(to: Name, word: ThreeWord, a: Name, b: Name, c: Name) -> Call
-    ensures { task_of result ≡ into to (Three word) (vectors (a ∷ b ∷ c ∷ [])) }
+/// A name that lies behind a pointer.
+fn further(alloc: Global, name: Name) -> Result<Box<Name>, ReadFault>
+    ensures { Reads (λ b. b.value) result (Some name) }
 {
-    match word {
+    Box::new(alloc, name).map_err(|_| ReadFault::OutOfMemory)
+}
+
+pub(crate) fn call_of_three(
+    alloc: Global,
+    to: Name,
+    word: ThreeWord,
+    a: Name,
+    b: Name,
+    c: Name,
+) -> Result<Call, ReadFault>
+    ensures { Reads task_of result (Some (into to (Three word) (vectors (a ∷ b ∷ c ∷ [])))) }
+{
+    let c = further(alloc, c)?;
+    Ok(match word {
         ThreeWord::Sel(kind) => Call::Sel {
-            to,
             kind,
+            to,
             f: a,
             a: b,
             b: c,
         },
         ThreeWord::IndSeg => Call::IndSeg { to, a, b, s: c },
-        ThreeWord::SmpSeg(kind) => Call::Smp {
-            to,
+        ThreeWord::SmpSeg(kind) => Call::SmpSeg {
             kind,
+            to,
             a,
             i: b,
-            s: Some(c),
+            s: c,
         },
-        ThreeWord::PckSeg(kind) => Call::Pck {
-            to,
+        ThreeWord::PckSeg(kind) => Call::PckSeg {
             kind,
+            to,
             a,
             f: b,
-            s: Some(c),
+            s: c,
         },
-    }
+    })
+}
+
+pub(crate) fn call_of_four(
+    alloc: Global,
+    to: Name,
+    kind: Kind,
+    a: Name,
+    s: Name,
+    i: Name,
+    t: Name,
+) -> Result<Call, ReadFault>
+    ensures { Reads task_of result (Some (into to (BckSeg kind) (vectors (a ∷ s ∷ i ∷ t ∷ [])))) }
+{
+    let index = SegmentedIndex { i, t };
+    let index = Box::new(alloc, index).map_err(|_| ReadFault::OutOfMemory)?;
+    Ok(Call::BckSeg {
+        kind,
+        to,
+        a,
+        s,
+        index,
+    })
 }

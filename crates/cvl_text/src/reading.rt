@@ -34,8 +34,8 @@ fn targeted(alloc: Global, to: Name, word: Word, text: &[u8]) -> Result<Call, Re
         }
         Word::One(word) => fixed::one(to, word, text).ok_or(ReadFault::BadCall),
         Word::Two(word) => fixed::two(to, word, text).ok_or(ReadFault::BadCall),
-        Word::Three(word) => fixed::three(to, word, text).ok_or(ReadFault::BadCall),
-        Word::BckSeg(kind) => fixed::four(to, kind, text).ok_or(ReadFault::BadCall),
+        Word::Three(word) => fixed::three(alloc, to, word, text),
+        Word::BckSeg(kind) => fixed::four(alloc, to, kind, text),
         Word::Alo => fixed::alo(to, text).ok_or(ReadFault::BadCall),
         Word::DisZ => fixed::dis_z(to, text).ok_or(ReadFault::BadCall),
         Word::DisB => fixed::dis_b(to, text).ok_or(ReadFault::BadCall),
