@@ -1,6 +1,9 @@
+pub mod BooleanLaws
 pub mod ByChoice
 pub mod Chosen
 pub mod CutLists
+pub mod IntegerLaws
+pub mod JoinedPairs
 pub mod Joining
 pub mod Mapped
 pub mod NextSegment
