@@ -7,6 +7,7 @@ use crate::load::Way;
 use crate::operands::{name, numbers};
 use combiner::{Caller, Combined, Polled, Shared};
 use cvl_text::Call;
+use scan_kernels::Sequential;
 use std::alloc::Global;
 use std::sync::Wait;
 use std::thread::Threads;
@@ -78,7 +79,7 @@ fn step(
     let Ok(()) = shared.post(caller, call) else {
         unreachable!()
     };
-    let Combined::Served { .. } = shared.combine(rt, alloc, caller) else {
+    let Combined::Served { .. } = shared.combine(&Sequential, alloc, caller) else {
         return None;
     };
     match shared.poll(caller) {

@@ -5,7 +5,7 @@ use crate::runs::{
     Failure, run_add, run_distribute, run_gather, run_in_range, run_index, run_is_permutation,
     run_pack, run_reduce, run_scan, run_scatter,
 };
-use scan_kernels::Meter;
+use scan_kernels::{Execution, Meter};
 use std::alloc::Global;
 use std::thread::Threads;
 
@@ -77,7 +77,7 @@ impl Case {
     }
 
     /// One run of the kernel.
-    pub fn run<R: Alloc<A = Global> + Threads + Sync>(
+    pub fn run<R: Alloc<A = Global> + Threads + Execution<Shared = R> + Sync>(
         self,
         rt: &R,
         meter: &mut Meter,

@@ -9,6 +9,7 @@
 mod batch;
 mod calls;
 mod case;
+mod chunks;
 mod inputs;
 mod latencies;
 mod load;
@@ -22,19 +23,22 @@ mod timing;
 
 use case::{CASES, Case};
 use inputs::Inputs;
+use scan_kernels::Execution;
 use std::alloc::Global;
 use std::process::ExitCode;
 use std::rt::Clock;
 use std::thread::Threads;
 use std::{env, io};
 
-const USAGE: &str = "usage: bench kernels|shared [WORDS]|batch";
+const USAGE: &str = "usage: bench kernels|shared [WORDS]|batch|chunks";
 
 /// How many items the kernels run over.
 const SIZES: [u32; 4] = [1_000, 32_000, 1_000_000, 16_000_000];
 
 /// Times each kernel over each number of items.
-fn kernels<R: Alloc<A = Global> + Clock + Print + Threads + Sync>(rt: &R) -> io::Result<()> {
+fn kernels<R: Alloc<A = Global> + Clock + Print + Threads + Execution<Shared = R> + Sync>(
+    rt: &R,
+) -> io::Result<()> {
     for size in SIZES {
         let inputs = Inputs::new(rt.alloc(), size)?;
         for case in CASES {
@@ -55,6 +59,7 @@ enum Asked {
     /// The rows of the shared machine whose names begin so.
     Shared(String),
     Batch,
+    Chunks,
     Unknown,
 }
 
@@ -73,6 +78,7 @@ fn read_arguments(rt: &HostRuntime) -> io::Result<Asked> {
         ("shared", None) => Asked::Shared(String::new(rt.alloc())),
         ("shared", Some(words)) => Asked::Shared(words),
         ("batch", None) => Asked::Batch,
+        ("chunks", None) => Asked::Chunks,
         _ => Asked::Unknown,
     })
 }
@@ -95,6 +101,7 @@ fn main(rt: HostRuntime) -> io::Result<ExitCode> {
             plans::rows(&rt)?;
             batch::rows(&rt)?;
         }
+        Asked::Chunks => chunks::rows(&rt)?,
         Asked::Usage => println!(rt; "{USAGE}")?,
         Asked::Unknown => return refuse(&rt),
     }

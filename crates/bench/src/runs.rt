@@ -3,7 +3,7 @@
 ghost use Rattle.std.specs.Prelude.{◌≡◌, length, IfOk};
 
 use permute_kernels::{back_permute_z, in_range, is_permutation, pack_z, permute_z};
-use scan_kernels::{Meter, ScanZ, Z2, distribute_z, index, map2_z, reduce_z, scan_z};
+use scan_kernels::{Execution, Meter, ScanZ, Z2, distribute_z, index, map2_z, reduce_z, scan_z};
 use segment_desc::{OutOfMemory, Segd};
 use std::alloc::Global;
 use std::io;
@@ -33,7 +33,7 @@ impl From<Failure> for io::Error {
     }
 }
 
-pub fn run_add<R: Alloc<A = Global> + Threads + Sync>(
+pub fn run_add<R: Alloc<A = Global> + Threads + Execution<Shared = R> + Sync>(
     rt: &R,
     meter: &mut Meter,
     left: &[i64],
@@ -45,7 +45,7 @@ pub fn run_add<R: Alloc<A = Global> + Threads + Sync>(
     Ok(map2_z(rt, rt.alloc(), meter, Z2::Add, left, right)?)
 }
 
-pub fn run_scan<R: Alloc<A = Global> + Threads + Sync>(
+pub fn run_scan<R: Alloc<A = Global> + Threads + Execution<Shared = R> + Sync>(
     rt: &R,
     meter: &mut Meter,
     items: &[i64],
@@ -57,7 +57,7 @@ pub fn run_scan<R: Alloc<A = Global> + Threads + Sync>(
     Ok(scan_z(rt, rt.alloc(), meter, ScanZ::Add, items, segments)?)
 }
 
-pub fn run_reduce<R: Alloc<A = Global> + Threads + Sync>(
+pub fn run_reduce<R: Alloc<A = Global> + Threads + Execution<Shared = R> + Sync>(
     rt: &R,
     meter: &mut Meter,
     items: &[i64],
@@ -79,7 +79,7 @@ fn values_for<'a>(values: &'a [i64], segments: &Segd) -> Result<&'a [i64], Failu
     Ok(values.split_at(segments.count()).0)
 }
 
-pub fn run_distribute<R: Alloc<A = Global> + Threads + Sync>(
+pub fn run_distribute<R: Alloc<A = Global> + Threads + Execution<Shared = R> + Sync>(
     rt: &R,
     meter: &mut Meter,
     values: &[i64],
@@ -89,7 +89,7 @@ pub fn run_distribute<R: Alloc<A = Global> + Threads + Sync>(
     Ok(distribute_z(rt, rt.alloc(), meter, values, segments)?)
 }
 
-pub fn run_index<R: Alloc<A = Global> + Threads + Sync>(
+pub fn run_index<R: Alloc<A = Global> + Threads + Execution<Shared = R> + Sync>(
     rt: &R,
     meter: &mut Meter,
     starts: &[i64],
@@ -102,7 +102,7 @@ pub fn run_index<R: Alloc<A = Global> + Threads + Sync>(
 }
 
 // With the test of its index, as a call makes it.
-pub fn run_gather<R: Alloc<A = Global> + Threads + Sync>(
+pub fn run_gather<R: Alloc<A = Global> + Threads + Execution<Shared = R> + Sync>(
     rt: &R,
     meter: &mut Meter,
     items: &[i64],
@@ -119,7 +119,7 @@ pub fn run_gather<R: Alloc<A = Global> + Threads + Sync>(
 }
 
 // With the test of its index, as a call makes it.
-pub fn run_scatter<R: Alloc<A = Global> + Threads + Sync>(
+pub fn run_scatter<R: Alloc<A = Global> + Threads + Execution<Shared = R> + Sync>(
     rt: &R,
     meter: &mut Meter,
     items: &[i64],
@@ -160,7 +160,7 @@ pub fn run_in_range<R: Alloc<A = Global>>(
     Ok(Vec::new(rt.alloc()))
 }
 
-pub fn run_pack<R: Alloc<A = Global> + Threads + Sync>(
+pub fn run_pack<R: Alloc<A = Global> + Threads + Execution<Shared = R> + Sync>(
     rt: &R,
     meter: &mut Meter,
     items: &[i64],

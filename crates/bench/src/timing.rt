@@ -2,7 +2,7 @@
 
 use crate::case::Case;
 use crate::inputs::Inputs;
-use scan_kernels::Meter;
+use scan_kernels::{Execution, Meter};
 use std::alloc::Global;
 use std::io;
 use std::rt::Clock;
@@ -22,7 +22,7 @@ const LEAST_TOTAL: u32 = 40_000_000;
 const MOST_TOTAL: u32 = 600_000_000;
 
 /// The time of so many runs, one behind the other, in nanoseconds; four seconds where it is longer.
-fn time<R: Alloc<A = Global> + Clock + Threads + Sync>(
+fn time<R: Alloc<A = Global> + Clock + Threads + Execution<Shared = R> + Sync>(
     rt: &R,
     case: Case,
     inputs: &Inputs,
@@ -37,7 +37,7 @@ fn time<R: Alloc<A = Global> + Clock + Threads + Sync>(
 }
 
 /// The least time of one run, in nanoseconds.
-pub fn least<R: Alloc<A = Global> + Clock + Threads + Sync>(
+pub fn least<R: Alloc<A = Global> + Clock + Threads + Execution<Shared = R> + Sync>(
     rt: &R,
     case: Case,
     inputs: &Inputs,

@@ -2,14 +2,15 @@
 
 use crate::{Book, CALLER_LIMIT};
 use cvl_text::Call;
+use scan_kernels::Execution;
 use std::alloc::Global;
 use std::process::Abort;
 use std::test::Fail;
 use std::thread::Threads;
 
 /// The place of a line's call that a caller ran, and the text of the reply.
-fn run(
-    rt: &(impl Threads + Abort + Sync),
+fn run<R: Threads + Abort + Execution<Shared = R> + Sync>(
+    rt: &R,
     alloc: Global,
     book: &mut Book,
     caller: u64,
@@ -26,8 +27,8 @@ fn run(
 }
 
 /// Whether a line that a caller runs is answered at this place, with this text.
-fn answers(
-    rt: &(impl Threads + Abort + Sync),
+fn answers<R: Threads + Abort + Execution<Shared = R> + Sync>(
+    rt: &R,
     alloc: Global,
     book: &mut Book,
     caller: u64,

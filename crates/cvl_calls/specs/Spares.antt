@@ -3,11 +3,11 @@ use Rattle.std.specs.Prelude.{ℕ, ◌≤◌, ◌+◌, ◌*◌}
 
 -- the greatest number of bytes of a vector that is kept
 abbrev pub kept_each : ℕ
-kept_each = 65536
+kept_each = 8388608
 
 -- the greatest number of bytes of both vectors
 abbrev pub kept_limit : ℕ
-kept_limit = 131072
+kept_limit = 16777216
 
 -- the bytes of a vector of so many integers and one of so many truth values
 abbrev pub kept_bytes : ℕ → ℕ → ℕ

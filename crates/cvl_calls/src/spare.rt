@@ -9,13 +9,13 @@ use std::marker::Model;
 use std::mem;
 use vector_memory::Value;
 
-/// The greatest number of integers of a vector that is kept: 64 KiB.
-const KEPT_INTS: usize = 8_192;
+/// The greatest number of integers of a vector that is kept: 8 MiB, as many as a vector may have.
+const KEPT_INTS: usize = 1_048_576;
 
-/// The greatest number of truth values of a vector that is kept: 64 KiB.
-const KEPT_BOOLS: usize = 65_536;
+/// The greatest number of truth values of a vector that is kept: 8 MiB.
+const KEPT_BOOLS: usize = 8_388_608;
 
-/// What stores replaced, for the next results: at most one vector of integers and one of truth values, of at most 64 KiB
+/// What stores replaced, for the next results: at most one vector of integers and one of truth values, of at most 8 MiB
 /// each. It lies outside the memories, and what calls answer and store does not hang on it. To a contract it is the number of
 /// bytes that it keeps.
 #[derive(Drop)]
@@ -46,7 +46,7 @@ impl Spare {
         }
     }
 
-    /// How many bytes are kept, at most 131,072.
+    /// How many bytes are kept, at most 16,777,216.
     pub fn bytes(&self) -> usize
         ensures bytes { result ≡ self.now }
         ensures bounded { result ≤ kept_limit }
@@ -81,6 +81,15 @@ impl Source<i64> for &mut Spare {
         let alloc = *self.ints.allocator();
         Kept::new(mem::replace(&mut self.ints, Vec::new(alloc))).vector(capacity)
     }
+
+    fn is_ready(&self, count: usize) -> bool {
+        self.ints.len() == count && self.ints.capacity() == count
+    }
+
+    fn ready(self, item: i64, count: usize) -> Result<Vec<i64>, AllocError> {
+        let alloc = *self.ints.allocator();
+        Kept::new(mem::replace(&mut self.ints, Vec::new(alloc))).ready(item, count)
+    }
 }
 
 impl Source<bool> for &mut Spare {
@@ -88,5 +97,14 @@ impl Source<bool> for &mut Spare {
     fn vector(self, capacity: usize) -> Result<Vec<bool>, AllocError> {
         let alloc = *self.bools.allocator();
         Kept::new(mem::replace(&mut self.bools, Vec::new(alloc))).vector(capacity)
+    }
+
+    fn is_ready(&self, count: usize) -> bool {
+        self.bools.len() == count && self.bools.capacity() == count
+    }
+
+    fn ready(self, item: bool, count: usize) -> Result<Vec<bool>, AllocError> {
+        let alloc = *self.bools.allocator();
+        Kept::new(mem::replace(&mut self.bools, Vec::new(alloc))).ready(item, count)
     }
 }

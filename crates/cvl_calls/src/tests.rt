@@ -4,7 +4,7 @@ use crate::{
     Call, Fault, Judged, Product, Reply, Spare, Stop, alike, apply, call_word, check, judge, run,
     runs_kernel, step, step_with, work,
 };
-use scan_kernels::{Meter, Sequential};
+use scan_kernels::{Execution, Meter, Sequential};
 use std::alloc::Global;
 use std::test::Fail;
 use std::thread::Threads;
@@ -17,8 +17,8 @@ fn name(text: &[u8]) -> Result<Name, Fail> {
 }
 
 /// Whether a line, run on the memory, is replied to so.
-fn replies(
-    rt: &(impl Threads + Sync),
+fn replies<R: Threads + Execution<Shared = R> + Sync>(
+    rt: &R,
     alloc: Global,
     memory: &mut Memory,
     line: &[u8],
@@ -31,8 +31,8 @@ fn replies(
 }
 
 /// How many kernels the work of a line runs.
-fn kernel_runs(
-    rt: &(impl Threads + Sync),
+fn kernel_runs<R: Threads + Execution<Shared = R> + Sync>(
+    rt: &R,
     alloc: Global,
     memory: &Memory,
     line: &[u8],
@@ -94,8 +94,8 @@ fn counts_the_kernels_that_ran(rt: HostRuntime) -> Result<(), Fail> {
 }
 
 /// More items than a line can hold: whether `step` finds so many truth values too long.
-fn is_too_long(
-    rt: &(impl Threads + Sync),
+fn is_too_long<R: Threads + Execution<Shared = R> + Sync>(
+    rt: &R,
     alloc: Global,
     memory: &mut Memory,
     items: usize,
@@ -202,8 +202,8 @@ fn knows_alike_calls(rt: HostRuntime) -> Result<(), Fail> {
 }
 
 /// The reply to a line that is run on the memory with what was kept.
-fn replied_with<'a>(
-    rt: &(impl Threads + Sync),
+fn replied_with<'a, R: Threads + Execution<Shared = R> + Sync>(
+    rt: &R,
     alloc: Global,
     spare: &mut Spare,
     memory: &mut Memory,
@@ -227,10 +227,10 @@ const KEPT: &[(&[u8], &[u8], usize)] = &[
     (b"d = add_wuz a b", b"ok", 3),
     (b"a = eql_wuz a b", b"ok", 24),
     (b"a = dis_vuz 7 9000", b"ok", 3),
-    (b"a = dis_vuz 7 2", b"ok", 3),
-    (b"get a", b"z 7 7", 3),
-    (b"get c", b"b F T F", 3),
-    (b"get d", b"z 31 62 93", 3),
+    (b"a = dis_vuz 7 2", b"ok", 72_003),
+    (b"get a", b"z 7 7", 72_003),
+    (b"get c", b"b F T F", 72_003),
+    (b"get d", b"z 31 62 93", 72_003),
 ];
 
 #[test]

@@ -1,6 +1,5 @@
 pub mod BooleanLaws
 pub mod ByChoice
-pub mod Chosen
 pub mod CutLists
 pub mod IntegerLaws
 pub mod JoinedPairs
@@ -9,6 +8,8 @@ pub mod Mapped
 pub mod NextSegment
 pub mod OneItem
 pub mod Paired
+pub mod Placed
 pub mod ResultLengths
 pub mod Scanned
 pub mod Tested
+pub mod Written

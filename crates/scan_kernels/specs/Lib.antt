@@ -1,6 +1,7 @@
 pub mod Distributed
 pub mod Elementwise
 pub mod Indexed
+pub mod Lists
 pub mod Metering
 pub mod Pairs
 pub mod Parts

@@ -7,8 +7,12 @@ ghost use Rattle.scan_kernels.specs.Elementwise.{item_by_item};
 ghost use Rattle.scan_kernels.specs.Metering.{CountsRun};
 
 use crate::choices::{by_comparison, by_name};
+use crate::chunks::{bools_by_chunks, write_size};
 use crate::execution::Execution;
+use crate::lists::Compared;
 use crate::meter::Meter;
+use crate::placewise::collected;
+use crate::rows::BoolRow;
 use crate::source::Source;
 use item_operations::Cmp;
 use segment_desc::OutOfMemory;
@@ -17,7 +21,7 @@ use std::alloc::AllocError;
 /// Whether the comparison holds of the two integers at each place of two vectors of one length, in one pass into a vector
 /// of its final size.
 pub fn compare2(
-    _execution: &impl Execution,
+    execution: &impl Execution,
     alloc: impl Source<bool>,
     meter: &mut Meter,
     op: Cmp,
@@ -29,7 +33,17 @@ pub fn compare2(
     ensures exact { IfOk result (λ v. IsExact v) }
     ensures counted { CountsRun result meter.old meter.new }
 {
-    let made = by_comparison!(op, compared(alloc, op, a, b)?);
+    let made = match write_size(execution, &alloc, meter, a.len()) {
+        Some(size) => {
+            let row = BoolRow::Compared(Compared {
+                op,
+                left: a,
+                right: b,
+            });
+            bools_by_chunks(execution, alloc, row, size)?
+        }
+        None => by_comparison!(op, compared(alloc, op, a, b)?),
+    };
     meter.raise();
     Ok(made)
 }
@@ -46,9 +60,10 @@ pub(crate) fn compared(
     ensures items { IfOk result (λ v. v.items ≡ item_by_item (compares op) a.now b.now) }
     ensures exact { IfOk result (λ v. IsExact v) }
 {
-    let mut made = alloc.vector(a.len())?;
-    for i in 0..a.len() {
-        made.push_reserved(op.apply(a[i], b[i]));
-    }
-    Ok(made)
+    let list = Compared {
+        op,
+        left: a,
+        right: b,
+    };
+    collected(alloc, &list)
 }

@@ -1,22 +1,80 @@
-//! How a kernel is run: with a runtime that can start threads, or in the calling thread alone.
+//! How a kernel is run: in threads of a runtime, or in the calling thread alone.
+//!
+//! A policy has a method for each kind of work that goes by chunks. All types of a method are known ones, since what is handed
+//! to threads may rest on no bound of a type parameter.
 
+ghost use Rattle.std.specs.Prelude.{◌≡◌, ◌<◌, ◌≤◌, length};
+ghost use Rattle.std.specs.Thread.{IsSync};
+ghost use Rattle.scan_kernels.specs.Lists.{FitBools, FitInts, bools_of, ints_of};
+
+use crate::in_order::{write_bools_in_order, write_ints_in_order};
+use crate::in_threads::{write_bools_in_threads, write_ints_in_threads};
+use crate::rows::{BoolRow, IntRow};
+use rayon::current_num_threads;
+use std::marker::Sync;
 use std::thread::Threads;
 
-/// An execution policy, which a kernel takes first. Each runtime with threads is one, and so is `Sequential`. By any policy
-/// the kernels run in the calling thread, and answer the same.
+/// An execution policy, which a kernel takes first. Each runtime with threads is one, and so is `Sequential`. By any policy a
+/// kernel answers the same.
 pub trait Execution {
-    /// What threads would share of the policy.
+    /// What threads share of the policy.
     type Shared: Sync;
+
+    /// How many chunks can be run at the same time. With a runtime that asks the system, which takes some microseconds.
+    fn processors(&self) -> usize
+        ensures { 1 ≤ result };
+
+    /// Writes integers over a list of as many, in chunks of a size.
+    fn write_ints(&self, row: IntRow<'_>, size: usize, list: &mut [i64])
+        requires shared { IsSync Self.Shared.row }
+        requires size { 0 < size }
+        requires fits { FitInts row }
+        requires long { length list.old ≡ length (ints_of row) }
+        ensures { list.new ≡ ints_of row.entry };
+
+    /// Writes truth values over a list of as many, in chunks of a size.
+    fn write_bools(&self, row: BoolRow<'_>, size: usize, list: &mut [bool])
+        requires shared { IsSync Self.Shared.row }
+        requires size { 0 < size }
+        requires fits { FitBools row }
+        requires long { length list.old ≡ length (bools_of row) }
+        ensures { list.new ≡ bools_of row.entry };
 }
 
+/// In threads that the runtime starts. A chunk whose thread cannot be started is run by the calling thread.
 impl<R: Threads + Sync> Execution for R {
     type Shared = R;
+
+    fn processors(&self) -> usize {
+        current_num_threads(self)
+    }
+
+    fn write_ints(&self, row: IntRow<'_>, size: usize, list: &mut [i64]) {
+        write_ints_in_threads(self, row, size, list)
+    }
+
+    fn write_bools(&self, row: BoolRow<'_>, size: usize, list: &mut [bool]) {
+        write_bools_in_threads(self, row, size, list)
+    }
 }
 
-/// The calling thread alone. It needs no runtime, as where a program has none to give: in a library that starts no threads.
+/// The calling thread alone, one chunk after another. It needs no runtime, as where a program has none to give: in a library
+/// that starts no threads.
 #[derive(Clone, Copy, Debug)]
 pub struct Sequential;
 
 impl Execution for Sequential {
     type Shared = ();
+
+    fn processors(&self) -> usize {
+        1
+    }
+
+    fn write_ints(&self, row: IntRow<'_>, size: usize, list: &mut [i64]) {
+        write_ints_in_order(row, size, list)
+    }
+
+    fn write_bools(&self, row: BoolRow<'_>, size: usize, list: &mut [bool]) {
+        write_bools_in_order(row, size, list)
+    }
 }

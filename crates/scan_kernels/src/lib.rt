@@ -5,19 +5,25 @@
 #![tactic(auto)]
 
 mod choices;
+mod chunks;
 mod compare;
 mod conditions;
 mod convert;
 mod distribute;
 mod execution;
 mod fill;
+mod in_order;
+mod in_threads;
 mod indices;
 mod joined;
 mod kernel;
 pub mod laws;
+mod lists;
 mod map;
 mod meter;
+mod placewise;
 mod reduce;
+mod rows;
 mod scan;
 mod select;
 mod singles;
@@ -43,9 +49,13 @@ pub use joined::select::Select;
 pub use joined::whole_reduce::{reduce_whole_b_joined, reduce_whole_z_joined};
 pub use joined::whole_scan::{ScanBools, ScanInts};
 pub use kernel::{JoinedKernel, Kernel, run_joined, run_parts};
+pub use lists::{
+    AlteredBools, AlteredInts, AppliedBools, AppliedInts, Compared, Numbers, Selected, Truths,
+};
 pub use map::{map1_b, map1_z, map2_b, map2_z};
 pub use meter::{DEFAULT_CHUNK, Meter};
 pub use reduce::{reduce_b, reduce_z};
+pub use rows::{BoolRow, IntRow};
 pub use scan::{scan_b, scan_z};
 pub use select::{select_b, select_z};
 pub use source::{Kept, Source};

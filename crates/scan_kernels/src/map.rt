@@ -8,8 +8,12 @@ ghost use Rattle.scan_kernels.specs.Elementwise.{item_by_item};
 ghost use Rattle.scan_kernels.specs.Metering.{CountsRun};
 
 use crate::choices::{by_b1, by_b2, by_name, by_z1, by_z2};
+use crate::chunks::{bools_by_chunks, ints_by_chunks, write_size};
 use crate::execution::Execution;
+use crate::lists::{AlteredBools, AlteredInts, AppliedBools, AppliedInts};
 use crate::meter::Meter;
+use crate::placewise::collected;
+use crate::rows::{BoolRow, IntRow};
 use crate::source::Source;
 use item_operations::{B1, B2, Z1, Z2};
 use segment_desc::OutOfMemory;
@@ -17,7 +21,7 @@ use std::alloc::AllocError;
 
 /// The operation on each integer, in one pass into a vector of its final size.
 pub fn map1_z(
-    _execution: &impl Execution,
+    execution: &impl Execution,
     alloc: impl Source<i64>,
     meter: &mut Meter,
     op: Z1,
@@ -27,7 +31,13 @@ pub fn map1_z(
     ensures exact { IfOk result (λ v. IsExact v) }
     ensures counted { CountsRun result meter.old meter.new }
 {
-    let made = by_z1!(op, altered_z(alloc, op, a)?);
+    let made = match write_size(execution, &alloc, meter, a.len()) {
+        Some(size) => {
+            let row = IntRow::Altered(AlteredInts { op, items: a });
+            ints_by_chunks(execution, alloc, row, size)?
+        }
+        None => by_z1!(op, altered_z(alloc, op, a)?),
+    };
     meter.raise();
     Ok(made)
 }
@@ -37,16 +47,12 @@ pub(crate) fn altered_z(alloc: impl Source<i64>, op: Z1, a: &[i64]) -> Result<Ve
     ensures items { IfOk result (λ v. v.items ≡ map (alter_z op) a.now) }
     ensures exact { IfOk result (λ v. IsExact v) }
 {
-    let mut made = alloc.vector(a.len())?;
-    for x in a {
-        made.push_reserved(op.apply(*x));
-    }
-    Ok(made)
+    collected(alloc, &AlteredInts { op, items: a })
 }
 
 /// The operation on each truth value, in one pass into a vector of its final size.
 pub fn map1_b(
-    _execution: &impl Execution,
+    execution: &impl Execution,
     alloc: impl Source<bool>,
     meter: &mut Meter,
     op: B1,
@@ -56,7 +62,13 @@ pub fn map1_b(
     ensures exact { IfOk result (λ v. IsExact v) }
     ensures counted { CountsRun result meter.old meter.new }
 {
-    let made = by_b1!(op, altered_b(alloc, op, a)?);
+    let made = match write_size(execution, &alloc, meter, a.len()) {
+        Some(size) => {
+            let row = BoolRow::Altered(AlteredBools { op, items: a });
+            bools_by_chunks(execution, alloc, row, size)?
+        }
+        None => by_b1!(op, altered_b(alloc, op, a)?),
+    };
     meter.raise();
     Ok(made)
 }
@@ -70,17 +82,13 @@ pub(crate) fn altered_b(
     ensures items { IfOk result (λ v. v.items ≡ map (alter_b op) a.now) }
     ensures exact { IfOk result (λ v. IsExact v) }
 {
-    let mut made = alloc.vector(a.len())?;
-    for x in a {
-        made.push_reserved(op.apply(*x));
-    }
-    Ok(made)
+    collected(alloc, &AlteredBools { op, items: a })
 }
 
 /// The operation on the two integers at each place of two vectors of one length, in one pass into a vector of its final
 /// size. `Div` and `Mod` ask for `divisors_ok` of the second vector, `Lsh` and `Rsh` for `shifts_ok`.
 pub fn map2_z(
-    _execution: &impl Execution,
+    execution: &impl Execution,
     alloc: impl Source<i64>,
     meter: &mut Meter,
     op: Z2,
@@ -93,7 +101,17 @@ pub fn map2_z(
     ensures exact { IfOk result (λ v. IsExact v) }
     ensures counted { CountsRun result meter.old meter.new }
 {
-    let made = chosen_z(alloc, op, a, b)?;
+    let made = match write_size(execution, &alloc, meter, a.len()) {
+        Some(size) => {
+            let row = IntRow::Applied(AppliedInts {
+                op,
+                left: a,
+                right: b,
+            });
+            ints_by_chunks(execution, alloc, row, size)?
+        }
+        None => chosen_z(alloc, op, a, b)?,
+    };
     meter.raise();
     Ok(made)
 }
@@ -119,17 +137,18 @@ pub(crate) fn applied_z(
     ensures items { IfOk result (λ v. v.items ≡ item_by_item (apply_z op) a.now b.now) }
     ensures exact { IfOk result (λ v. IsExact v) }
 {
-    let mut made = alloc.vector(a.len())?;
-    for i in 0..a.len() {
-        made.push_reserved(op.apply(a[i], b[i]));
-    }
-    Ok(made)
+    let list = AppliedInts {
+        op,
+        left: a,
+        right: b,
+    };
+    collected(alloc, &list)
 }
 
 /// The operation on the two truth values at each place of two vectors of one length, in one pass into a vector of its
 /// final size.
 pub fn map2_b(
-    _execution: &impl Execution,
+    execution: &impl Execution,
     alloc: impl Source<bool>,
     meter: &mut Meter,
     op: B2,
@@ -141,7 +160,17 @@ pub fn map2_b(
     ensures exact { IfOk result (λ v. IsExact v) }
     ensures counted { CountsRun result meter.old meter.new }
 {
-    let made = by_b2!(op, applied_b(alloc, op, a, b)?);
+    let made = match write_size(execution, &alloc, meter, a.len()) {
+        Some(size) => {
+            let row = BoolRow::Applied(AppliedBools {
+                op,
+                left: a,
+                right: b,
+            });
+            bools_by_chunks(execution, alloc, row, size)?
+        }
+        None => by_b2!(op, applied_b(alloc, op, a, b)?),
+    };
     meter.raise();
     Ok(made)
 }
@@ -157,9 +186,10 @@ pub(crate) fn applied_b(
     ensures items { IfOk result (λ v. v.items ≡ item_by_item (apply_b op) a.now b.now) }
     ensures exact { IfOk result (λ v. IsExact v) }
 {
-    let mut made = alloc.vector(a.len())?;
-    for i in 0..a.len() {
-        made.push_reserved(op.apply(a[i], b[i]));
-    }
-    Ok(made)
+    let list = AppliedBools {
+        op,
+        left: a,
+        right: b,
+    };
+    collected(alloc, &list)
 }

@@ -5,8 +5,12 @@ ghost use Rattle.segment_desc.specs.Appended.{IsExact};
 ghost use Rattle.scan_kernels.specs.Elementwise.{selected};
 ghost use Rattle.scan_kernels.specs.Metering.{CountsRun};
 
+use crate::chunks::{bools_by_chunks, ints_by_chunks, write_size};
 use crate::execution::Execution;
+use crate::lists::Selected;
 use crate::meter::Meter;
+use crate::placewise::collected;
+use crate::rows::{BoolRow, IntRow};
 use crate::source::Source;
 use segment_desc::OutOfMemory;
 use std::alloc::AllocError;
@@ -14,7 +18,7 @@ use std::alloc::AllocError;
 /// At each place the integer of the first vector where the flag is set, else that of the second. All three have one
 /// length. One pass into a vector of its final size.
 pub fn select_z(
-    _execution: &impl Execution,
+    execution: &impl Execution,
     alloc: impl Source<i64>,
     meter: &mut Meter,
     flags: &[bool],
@@ -27,15 +31,25 @@ pub fn select_z(
     ensures exact { IfOk result (λ v. IsExact v) }
     ensures counted { CountsRun result meter.old meter.new }
 {
-    let items = chosen(alloc, flags, a, b)?;
+    let made = match write_size(execution, &alloc, meter, flags.len()) {
+        Some(size) => {
+            let row = IntRow::Selected(Selected {
+                flags,
+                set: a,
+                unset: b,
+            });
+            ints_by_chunks(execution, alloc, row, size)?
+        }
+        None => chosen(alloc, flags, a, b)?,
+    };
     meter.raise();
-    Ok(items)
+    Ok(made)
 }
 
 /// At each place the truth value of the first vector where the flag is set, else that of the second. All three have one
 /// length. One pass into a vector of its final size.
 pub fn select_b(
-    _execution: &impl Execution,
+    execution: &impl Execution,
     alloc: impl Source<bool>,
     meter: &mut Meter,
     flags: &[bool],
@@ -48,9 +62,19 @@ pub fn select_b(
     ensures exact { IfOk result (λ v. IsExact v) }
     ensures counted { CountsRun result meter.old meter.new }
 {
-    let truths = chosen(alloc, flags, a, b)?;
+    let made = match write_size(execution, &alloc, meter, flags.len()) {
+        Some(size) => {
+            let row = BoolRow::Selected(Selected {
+                flags,
+                set: a,
+                unset: b,
+            });
+            bools_by_chunks(execution, alloc, row, size)?
+        }
+        None => chosen(alloc, flags, a, b)?,
+    };
     meter.raise();
-    Ok(truths)
+    Ok(made)
 }
 
 pub(crate) fn chosen<T: Copy + Send + Sync>(
@@ -64,16 +88,10 @@ pub(crate) fn chosen<T: Copy + Send + Sync>(
     ensures items { IfOk result (λ v. v.items ≡ selected flags.now a.now b.now) }
     ensures exact { IfOk result (λ v. IsExact v) }
 {
-    let mut made = alloc.vector(flags.len())?;
-    for i in 0..flags.len() {
-        made.push_reserved(either(flags[i], a[i], b[i]));
-    }
-    Ok(made)
-}
-
-// Both items are read, so that the loop has no branch.
-fn either<T: Copy + Send + Sync>(flag: bool, x: T, y: T) -> T
-    ensures { result ≡ (if flag then x else y) }
-{
-    if flag { x } else { y }
+    let list = Selected {
+        flags,
+        set: a,
+        unset: b,
+    };
+    collected(alloc, &list)
 }

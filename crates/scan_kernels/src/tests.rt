@@ -1,5 +1,6 @@
 //! Each public kernel on small vectors, with the count of runs.
 
+mod chunks;
 mod elementwise;
 mod joined;
 mod kept;

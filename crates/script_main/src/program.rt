@@ -9,6 +9,7 @@ ghost use Rattle.script_main.specs.Programs.{mode_word, AsksRoom, AsksRun, AsksN
 
 use crate::mode::Mode;
 use crate::shared::run_shared;
+use scan_kernels::Execution;
 use script_lines::{Run, RunFault, Sink, Source, run_script, write_all};
 use std::alloc::Global;
 use std::mem;
@@ -98,8 +99,8 @@ fn status_of(ran: &Result<(), RunFault>) -> u8
 }
 
 /// Runs a script in this mode.
-fn run_as<R: Source, W: Sink>(
-    rt: &(impl Threads + Wait + Sync),
+fn run_as<R: Source, W: Sink, T: Threads + Wait + Execution<Shared = T> + Sync>(
+    rt: &T,
     alloc: Global,
     mode: Mode,
     room: u64,
@@ -135,8 +136,8 @@ fn run_as<R: Source, W: Sink>(
 /// end.
 ///
 /// It is a program's last act: what the book of a serial run holds is left to the system, and not given back.
-pub fn run_program<R: Source, W: Sink>(
-    rt: &(impl Threads + Wait + Sync),
+pub fn run_program<R: Source, W: Sink, T: Threads + Wait + Execution<Shared = T> + Sync>(
+    rt: &T,
     alloc: Global,
     words: &[String],
     reader: &mut R,

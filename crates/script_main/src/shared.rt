@@ -10,6 +10,7 @@ use crate::gate::Open;
 use crate::report::write_report;
 use crate::threads::run_threads;
 use cvl_text::Call;
+use scan_kernels::Execution;
 use script_lines::{RunFault, Sink, Source, read_script, write_bad_line};
 use std::alloc::Global;
 use std::sync::Wait;
@@ -47,8 +48,8 @@ fn read_whole<R: Source, W: Sink>(
 ///
 /// It ends at the first bad line, of which nothing is run, for want of memory, where a read or a write fails, and where the
 /// workers are not run to their end; `RunsShared` says what is written then.
-pub(crate) fn run_shared<R: Source, W: Sink>(
-    rt: &(impl Threads + Wait + Sync),
+pub(crate) fn run_shared<R: Source, W: Sink, T: Threads + Wait + Execution<Shared = T> + Sync>(
+    rt: &T,
     alloc: Global,
     room: u64,
     reader: &mut R,

@@ -8,6 +8,7 @@ mod rows;
 mod runs;
 mod scripts;
 
+use scan_kernels::Execution;
 use std::alloc::{Alloc, Global};
 use std::rt::Files;
 use std::sync::Wait;
@@ -28,11 +29,9 @@ fn folder(rt: &HostRuntime) -> io::Result<String> {
 }
 
 /// Prints of each script whether it is answered by the text beside it.
-fn print_scripts(
-    rt: &(impl Files + Alloc<A = Global> + Print + Threads + Wait + Sync),
-    folder: &str,
-    names: &[String],
-) -> io::Result<()> {
+fn print_scripts<
+    R: Files + Alloc<A = Global> + Print + Threads + Wait + Execution<Shared = R> + Sync,
+>(rt: &R, folder: &str, names: &[String]) -> io::Result<()> {
     for name in names {
         match scripts::first_difference(rt, folder, name)? {
             None => println!(rt; "{name} ok")?,
@@ -43,8 +42,8 @@ fn print_scripts(
 }
 
 /// Prints the numbers of the rows that are not answered as they say, and how many rows there are.
-fn print_rows(
-    rt: &(impl Files + Alloc<A = Global> + Print + Threads + Wait + Sync),
+fn print_rows<R: Files + Alloc<A = Global> + Print + Threads + Wait + Execution<Shared = R> + Sync>(
+    rt: &R,
     folder: &str,
 ) -> io::Result<()> {
     let checked = rows::check(rt, folder, TABLE)?;

@@ -2,6 +2,7 @@
 //! exit status, with a tab between them. ` / ` parts the lines of the script and of the text.
 
 use crate::runs::run;
+use scan_kernels::Execution;
 use std::alloc::{Alloc, Global};
 use std::rt::Files;
 use std::sync::Wait;
@@ -16,8 +17,8 @@ pub struct Checked {
 }
 
 /// Runs the rows of a table.
-pub fn check(
-    rt: &(impl Files + Alloc<A = Global> + Threads + Wait + Sync),
+pub fn check<R: Files + Alloc<A = Global> + Threads + Wait + Execution<Shared = R> + Sync>(
+    rt: &R,
     folder: &str,
     table: &str,
 ) -> io::Result<Checked> {
@@ -34,7 +35,10 @@ pub fn check(
 }
 
 /// Whether a row is answered as it says.
-fn holds(rt: &(impl Alloc<A = Global> + Threads + Wait + Sync), row: &str) -> io::Result<bool> {
+fn holds<R: Alloc<A = Global> + Threads + Wait + Execution<Shared = R> + Sync>(
+    rt: &R,
+    row: &str,
+) -> io::Result<bool> {
     let cells: Vec<&str> = row.split('\t').collect(rt.alloc())?;
     let [arguments, script, text, status] = cells.as_slice() else {
         return Ok(false);

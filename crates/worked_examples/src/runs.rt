@@ -1,5 +1,6 @@
 //! The program over memory.
 
+use scan_kernels::Execution;
 use script_main::{ReadSource, WriteSink, run_program};
 use std::alloc::{Alloc, AllocError, Global};
 use std::sync::Wait;
@@ -13,8 +14,8 @@ pub struct Ran {
 }
 
 /// Runs the program with these arguments, which spaces part, on a script.
-pub fn run(
-    rt: &(impl Alloc<A = Global> + Threads + Wait + Sync),
+pub fn run<R: Alloc<A = Global> + Threads + Wait + Execution<Shared = R> + Sync>(
+    rt: &R,
     arguments: &str,
     script: &[u8],
 ) -> Result<Ran, AllocError> {

@@ -2,6 +2,7 @@
 //! `.threads` are run in that mode.
 
 use crate::runs::run;
+use scan_kernels::Execution;
 use std::alloc::{Alloc, Global};
 use std::rt::Files;
 use std::sync::Wait;
@@ -32,11 +33,9 @@ fn mode_of(name: &str) -> &str {
 }
 
 /// The first line, counted from 1, where the program's answer to a script is not the text beside it.
-pub fn first_difference(
-    rt: &(impl Files + Alloc<A = Global> + Threads + Wait + Sync),
-    folder: &str,
-    name: &str,
-) -> io::Result<Option<usize>> {
+pub fn first_difference<
+    R: Files + Alloc<A = Global> + Threads + Wait + Execution<Shared = R> + Sync,
+>(rt: &R, folder: &str, name: &str) -> io::Result<Option<usize>> {
     let script = fs::read(rt, format!(in rt.alloc(); "{folder}/{name}.cvl")?)?;
     let text = fs::read(rt, format!(in rt.alloc(); "{folder}/{name}.out")?)?;
     let ran = run(rt, mode_of(name), &script)?;

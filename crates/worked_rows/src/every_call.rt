@@ -1,6 +1,7 @@
 //! Every call word on the same operands: what it gives, and each fault that it can have. A file for each shape of call.
 
 use crate::program::ends_with;
+use scan_kernels::Execution;
 use std::alloc::{Alloc, Global};
 use std::sync::Wait;
 use std::test::Fail;
@@ -42,8 +43,8 @@ const OPERANDS: &str = "0: a = z 7 -8 9\n\
 const OPERAND_LINES: usize = 17;
 
 /// Whether this call on the operands puts this value into `d`.
-pub fn gives(
-    rt: &(impl Alloc<A = Global> + Threads + Wait + Sync),
+pub fn gives<R: Alloc<A = Global> + Threads + Wait + Execution<Shared = R> + Sync>(
+    rt: &R,
     call: &str,
     value: &str,
 ) -> Result<bool, Fail> {
@@ -53,8 +54,8 @@ pub fn gives(
 }
 
 /// Whether this call on the operands has this reply and leaves `d` as it was.
-pub fn replies(
-    rt: &(impl Alloc<A = Global> + Threads + Wait + Sync),
+pub fn replies<R: Alloc<A = Global> + Threads + Wait + Execution<Shared = R> + Sync>(
+    rt: &R,
     call: &str,
     reply: &str,
 ) -> Result<bool, Fail> {
@@ -62,8 +63,8 @@ pub fn replies(
 }
 
 /// Whether this call on the operands has this reply in a memory of this room and leaves `d` as it was.
-pub fn replies_within(
-    rt: &(impl Alloc<A = Global> + Threads + Wait + Sync),
+pub fn replies_within<R: Alloc<A = Global> + Threads + Wait + Execution<Shared = R> + Sync>(
+    rt: &R,
     room: &str,
     call: &str,
     reply: &str,

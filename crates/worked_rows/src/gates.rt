@@ -2,6 +2,7 @@
 
 use crate::streams::Pieces;
 use cvl_text::Call;
+use scan_kernels::Sequential;
 use script_main::{Gate, ReadSource, RunFault, read_script, run_threads};
 use std::alloc::{Alloc, Global};
 use std::process::Abort;
@@ -55,7 +56,7 @@ fn run_through<G: Gate + Sync>(
         Ok(settled) => settled,
         Err(fault) => return Ok(Err(fault)),
     };
-    assert!(rt; settled.book.audit(rt, rt.alloc())?);
+    assert!(rt; settled.book.audit(&Sequential, rt.alloc())?);
     let mut replies = Vec::new(rt.alloc());
     let mut said = Vec::new(rt.alloc());
     for own in &settled.replies {

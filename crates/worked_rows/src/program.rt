@@ -1,6 +1,7 @@
 //! The program over memory, and its arguments.
 
 use crate::streams::{Full, Pieces, Short};
+use scan_kernels::Execution;
 use script_main::{ReadSource, RunFault, WriteSink, run_program, run_serial};
 use std::alloc::{Alloc, Global};
 use std::sync::Wait;
@@ -15,8 +16,8 @@ pub struct Ran {
 }
 
 /// Runs the program with these arguments on a reader, with a writer that takes a number of bytes.
-pub fn run_on(
-    rt: &(impl Alloc<A = Global> + Threads + Wait + Sync),
+pub fn run_on<R: Alloc<A = Global> + Threads + Wait + Execution<Shared = R> + Sync>(
+    rt: &R,
     arguments: &[&str],
     reader: Pieces<'_>,
     mut writer: Short,
@@ -45,8 +46,8 @@ pub fn writer(rt: &impl Alloc<A = Global>, step: usize, left: usize, full: Full)
 }
 
 /// Runs the program on a script, with nothing that fails.
-pub fn run(
-    rt: &(impl Alloc<A = Global> + Threads + Wait + Sync),
+pub fn run<R: Alloc<A = Global> + Threads + Wait + Execution<Shared = R> + Sync>(
+    rt: &R,
     arguments: &[&str],
     script: &[u8],
     step: usize,
@@ -65,8 +66,8 @@ pub fn run(
 }
 
 /// Whether the program answers a script with this text and this status, however the script is cut by reads.
-pub fn answers(
-    rt: &(impl Alloc<A = Global> + Threads + Wait + Sync),
+pub fn answers<R: Alloc<A = Global> + Threads + Wait + Execution<Shared = R> + Sync>(
+    rt: &R,
     arguments: &[&str],
     script: &[u8],
     text: &[u8],
@@ -81,8 +82,8 @@ pub fn answers(
 }
 
 /// Whether the program answers so many first lines of a script with `ok`, and the others with this text.
-pub fn ends_with(
-    rt: &(impl Alloc<A = Global> + Threads + Wait + Sync),
+pub fn ends_with<R: Alloc<A = Global> + Threads + Wait + Execution<Shared = R> + Sync>(
+    rt: &R,
     arguments: &[&str],
     script: &str,
     oks: usize,

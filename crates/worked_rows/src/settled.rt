@@ -3,11 +3,11 @@
 use crate::streams::{Full, Pieces, Short};
 use call_history::{Book, CALLER_LIMIT};
 use cvl_text::{Call, Reply};
+use scan_kernels::Sequential;
 use script_main::{ReadSource, RunFault, Settled, WriteSink, read_script, write_report};
 use std::alloc::{Alloc, Global};
 use std::process::Abort;
 use std::test::Fail;
-use std::thread::Threads;
 
 /// The calls of a script, or why it was not read.
 fn calls_of(alloc: Global, reader: Pieces<'_>) -> Result<Vec<Vec<Call>>, RunFault> {
@@ -26,7 +26,7 @@ fn whole(bytes: &[u8], step: usize) -> Pieces<'_> {
 
 /// Runs the calls of the callers on a book of this room, caller after caller.
 fn settled(
-    rt: &(impl Threads + Abort + Sync),
+    rt: &impl Abort,
     alloc: Global,
     room: u64,
     callers: Vec<Vec<Call>>,
@@ -44,7 +44,7 @@ fn settled(
 
 /// The replies to the calls of a caller.
 fn run_calls(
-    rt: &(impl Threads + Abort + Sync),
+    rt: &impl Abort,
     alloc: Global,
     book: &mut Book,
     caller: u64,
@@ -53,7 +53,7 @@ fn run_calls(
     assert!(rt; caller < CALLER_LIMIT as u64);
     let mut replies = Vec::new(alloc);
     for call in calls {
-        let Ok((_, reply)) = book.run(rt, alloc, caller, call) else {
+        let Ok((_, reply)) = book.run(&Sequential, alloc, caller, call) else {
             return Err("out of memory")?;
         };
         replies.push(reply)?;
@@ -63,7 +63,6 @@ fn run_calls(
 
 /// The report of a settled run, as far as the writer takes it.
 fn report(
-    rt: &(impl Threads + Sync),
     alloc: Global,
     settled: &Settled,
     step: usize,
@@ -77,22 +76,17 @@ fn report(
         full,
     };
     let mut sink = WriteSink::new(&mut writer);
-    let written = write_report(rt, alloc, settled, &mut sink);
+    let written = write_report(&Sequential, alloc, settled, &mut sink);
     (writer.taken, written)
 }
 
 /// Whether a script that is read and then run caller after caller is reported by this text, however it is cut.
-fn reports(
-    rt: &(impl Threads + Abort + Sync),
-    alloc: Global,
-    script: &[u8],
-    text: &[u8],
-) -> Result<bool, Fail> {
+fn reports(rt: &impl Abort, alloc: Global, script: &[u8], text: &[u8]) -> Result<bool, Fail> {
     let mut good = true;
     for step in [1, 3, 100_000] {
         let callers = calls_of(alloc, whole(script, step))?;
         let run = settled(rt, alloc, 1000, callers)?;
-        let (taken, written) = report(rt, alloc, &run, step, usize::MAX, Full::Fails);
+        let (taken, written) = report(alloc, &run, step, usize::MAX, Full::Fails);
         good = good && taken.as_slice() == text && written == Ok(());
     }
     Ok(good)
@@ -200,14 +194,14 @@ fn reads_a_bad_line_before_a_failed_read(rt: HostRuntime) -> Result<(), Fail> {
 fn fails_to_report_after_each_byte(rt: HostRuntime) -> Result<(), Fail> {
     let alloc = rt.alloc();
     let run = settled(&rt, alloc, 1000, calls_of(alloc, whole(SCRIPT, 7))?)?;
-    let (text, written) = report(&rt, alloc, &run, 1000, usize::MAX, Full::Fails);
+    let (text, written) = report(alloc, &run, 1000, usize::MAX, Full::Fails);
     assert!(rt;
         text.as_slice() == b"0 ok\n1 ok\n2 z 2 4\na z 2 4\nhistory 3\naudit ok\n".as_slice()
     );
     assert!(rt; written == Ok(()));
     for full in [Full::Fails, Full::TakesNone] {
         for left in 0..text.len() {
-            let (taken, written) = report(&rt, alloc, &run, 3, left, full);
+            let (taken, written) = report(alloc, &run, 3, left, full);
             assert!(rt; taken.as_slice() == &text[..left] && written == Err(RunFault::Write));
         }
     }

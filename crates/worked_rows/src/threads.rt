@@ -2,6 +2,7 @@
 
 use crate::program::{answers, run_on, writer};
 use crate::streams::{Full, Pieces};
+use scan_kernels::Execution;
 use std::alloc::{Alloc, Global};
 use std::sync::Wait;
 use std::test::Fail;
@@ -147,8 +148,8 @@ fn fails_to_read_at_each_call(rt: HostRuntime) -> Result<(), Fail> {
 }
 
 /// Runs the program on a script, with a writer that takes so many bytes. Whether it wrote so much of this text, and failed.
-fn fails_after(
-    rt: &(impl Alloc<A = Global> + Threads + Wait + Sync),
+fn fails_after<R: Alloc<A = Global> + Threads + Wait + Execution<Shared = R> + Sync>(
+    rt: &R,
     script: &[u8],
     text: &[u8],
     left: usize,

@@ -1,6 +1,7 @@
 //! Small vectors through single calls: the last line of each script shows what the call gives.
 
 use crate::program::ends_with;
+use scan_kernels::Execution;
 use std::alloc::{Alloc, Global};
 use std::sync::Wait;
 use std::test::Fail;
@@ -103,8 +104,8 @@ static VECTORS: [(&str, &str); 29] = [
 ];
 
 /// Whether each line of a script but the last is answered `ok`, and the last with this text.
-fn shows(
-    rt: &(impl Alloc<A = Global> + Threads + Wait + Sync),
+fn shows<R: Alloc<A = Global> + Threads + Wait + Execution<Shared = R> + Sync>(
+    rt: &R,
     script: &str,
     text: &str,
 ) -> Result<bool, Fail> {

@@ -8,6 +8,7 @@ use crate::calls::wait::FIRST_PAUSE;
 use crate::own::run_own;
 use crate::shared::Shared;
 use cvl_text::{Call, Reply};
+use scan_kernels::Sequential;
 use std::alloc::Global;
 use std::sync::Wait;
 use std::thread::Threads;
@@ -17,7 +18,7 @@ impl Shared {
     /// Runs a call at once if the book is free, and serves what others left, and else leaves it, and asks and serves until it is
     /// answered: the place of its entry, counted from 0, and the reply. A caller whose last call was served by another leaves its
     /// call first, and tries for the book only if nobody serves it in some microseconds. For want of memory the call comes back,
-    /// and stands in no history.
+    /// and stands in no history. Its kernels stay in its thread, and so do those of the calls that it serves.
     pub fn call(
         &self,
         rt: &(impl Threads + Wait + Sync),
@@ -41,13 +42,13 @@ impl Shared {
         let mut call = call;
         if caller.leads {
             let seat = &mut caller.seat;
-            match run_own(rt, alloc, &self.slots, seat, self.callers, call) {
+            match run_own(&Sequential, alloc, &self.slots, seat, self.callers, call) {
                 Ok(ran) => return ran,
                 Err(back) => call = back,
             }
         }
         caller.leads = false;
         self.leave(caller, call);
-        self.ask(rt, alloc, caller, FIRST_PAUSE)
+        self.ask(&Sequential, rt, alloc, caller, FIRST_PAUSE)
     }
 }

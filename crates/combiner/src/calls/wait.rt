@@ -7,6 +7,7 @@ use crate::answers::{Combined, Polled};
 use crate::caller::Caller;
 use crate::shared::Shared;
 use cvl_text::{Call, Reply};
+use scan_kernels::{Execution, Sequential};
 use std::alloc::Global;
 use std::sync::Wait;
 use std::thread::Threads;
@@ -21,7 +22,7 @@ const LAST_PAUSE: u32 = 2048;
 
 impl Shared {
     /// Asks and serves until the call that the caller left is answered: the place of its entry, counted from 0, and the reply.
-    /// For want of memory the call comes back, and stands in no history.
+    /// For want of memory the call comes back, and stands in no history. The kernels of calls that it serves stay in its thread.
     pub fn wait(
         &self,
         rt: &(impl Threads + Wait + Sync),
@@ -41,13 +42,38 @@ impl Shared {
         ensures back { IfErr result (λ refused. IsWhatWasLeft caller.old refused.0) }
         ensures record_kept { OnErr result (caller.new.own ≡ caller.old.own) }
     {
-        self.ask(rt, alloc, caller, 0)
+        self.ask(&Sequential, rt, alloc, caller, 0)
+    }
+
+    /// `wait`, by an execution policy for the kernels of the calls that it serves.
+    pub fn wait_by(
+        &self,
+        execution: &impl Execution,
+        rt: &impl Wait,
+        alloc: Global,
+        caller: &mut Caller,
+    ) -> Result<(u64, Reply), (Call, OutOfMemory)>
+        requires machine { caller.old.machine ≡ self.now }
+        requires left { HasLeft caller.old }
+        ensures machine { caller.new.machine ≡ self.now }
+        ensures number { caller.new.number ≡ caller.old.number }
+        ensures room { caller.new.room ≡ caller.old.room }
+        ensures idle { IsIdle caller.new }
+        ensures later { Begins caller.old.seen caller.new.seen }
+        ensures rests { Rests caller.new }
+        ensures notes { KeepsNotes caller.old caller.new }
+        ensures answered { IfOk result (λ answer. IsAnsweredAtLast caller.old caller.new answer.0 answer.1) }
+        ensures back { IfErr result (λ refused. IsWhatWasLeft caller.old refused.0) }
+        ensures record_kept { OnErr result (caller.new.own ≡ caller.old.own) }
+    {
+        self.ask(execution, rt, alloc, caller, 0)
     }
 
     /// `wait`, of a caller that first lets so many turns pass.
     pub(crate) fn ask(
         &self,
-        rt: &(impl Threads + Wait + Sync),
+        execution: &impl Execution,
+        rt: &impl Wait,
         alloc: Global,
         caller: &mut Caller,
         first: u32,
@@ -74,7 +100,7 @@ impl Shared {
                 Polled::Waiting => {}
                 Polled::Idle => unreachable!(),
             }
-            turns = match self.combine(rt, alloc, caller) {
+            turns = match self.combine(execution, alloc, caller) {
                 Combined::Busy => longer(turns),
                 Combined::Served { .. } => 0,
             };

@@ -8,6 +8,7 @@ use super::table::one;
 use crate::{Caller, Combined, Occupied, Polled, Shared};
 use call_history::Book;
 use cvl_text::{Call, Reply};
+use scan_kernels::Sequential;
 use std::alloc::Global;
 use std::process::Abort;
 use std::test::Fail;
@@ -30,7 +31,7 @@ fn serve_alone(
         calls,
         waves,
         kernels,
-    } = shared.combine(rt, alloc, caller)
+    } = shared.combine(&Sequential, alloc, caller)
     else {
         unreachable!()
     };

@@ -6,6 +6,7 @@ ghost use Rattle.combiner.specs.Standing.{IsIdle};
 use crate::{Caller, Combined, Polled, Shared};
 use call_history::Book;
 use cvl_text::{Call, Reply};
+use scan_kernels::Sequential;
 use std::alloc::Global;
 use std::sync::Wait;
 use std::thread::Threads;
@@ -75,7 +76,7 @@ pub(crate) fn serves(
         calls,
         waves,
         kernels,
-    } = shared.combine(rt, alloc, caller)
+    } = shared.combine(&Sequential, alloc, caller)
     else {
         return false;
     };

@@ -5,6 +5,7 @@ ghost use Rattle.std.specs.Prelude.{◌≡◌, All};
 use crate::{Caller, Polled, Shared};
 use call_history::{Book, Entry};
 use cvl_text::{Call, Reply};
+use scan_kernels::Sequential;
 use std::alloc::Global;
 use std::test::Fail;
 use std::thread;
@@ -62,7 +63,7 @@ fn work(
         if let Some(call) = call_of(alloc, round) {
             let _left = shared.post(caller, call).is_ok();
         }
-        let _served = shared.combine(rt, alloc, caller);
+        let _served = shared.combine(&Sequential, alloc, caller);
         let _length = shared.look(caller);
         if let Some(news) = told_by(shared.poll(caller)) {
             let _noted = told.push(news);

@@ -5,15 +5,15 @@ use crate::{
     are_places, back_permute_b, back_permute_z, gather_b, gather_z, in_range, is_permutation,
     is_whole_permutation, permute_b, permute_whole_b, permute_whole_z, permute_z,
 };
-use scan_kernels::{Meter, Sequential};
+use scan_kernels::{Execution, Meter, Sequential};
 use std::alloc::Global;
 use std::process::Abort;
 use std::test::Fail;
 use std::thread::Threads;
 
 /// The permuted integers, where the index is a permutation and one run was counted.
-fn permuted_z(
-    rt: &(impl Abort + Threads + Sync),
+fn permuted_z<R: Abort + Threads + Execution<Shared = R> + Sync>(
+    rt: &R,
     alloc: Global,
     items: &[i64],
     index: &[i64],
@@ -33,8 +33,8 @@ fn permuted_z(
 }
 
 /// The integers that the index reads, where each index is in range and one run was counted.
-fn gathered_z(
-    rt: &(impl Abort + Threads + Sync),
+fn gathered_z<R: Abort + Threads + Execution<Shared = R> + Sync>(
+    rt: &R,
     alloc: Global,
     items: &[i64],
     source: &[i64],

@@ -2,16 +2,15 @@ ghost use Rattle.std.specs.Prelude.{◌≡◌, length, All};
 ghost use Rattle.item_operations.specs.IntegerOps.{IsAllowed};
 
 use crate::{
-    B1, B2, Cmp, Meter, Z1, Z2, compare2, divisors_ok, map1_b, map1_z, map2_b, map2_z, number,
-    select_b, select_z, shifts_ok, truth,
+    B1, B2, Cmp, Execution, Meter, Z1, Z2, compare2, divisors_ok, map1_b, map1_z, map2_b, map2_z,
+    number, select_b, select_z, shifts_ok, truth,
 };
 use std::test::Fail;
-use std::thread::Threads;
 
 /// Whether the operation gives the items wanted, in one run.
 fn makes(
     rt: &HostRuntime,
-    threads: &(impl Threads + Sync),
+    threads: &impl Execution,
     op: Z2,
     a: &[i64],
     b: &[i64],
@@ -30,7 +29,7 @@ fn makes(
 /// Whether the comparison gives the truth values wanted, in one run.
 fn compares(
     rt: &HostRuntime,
-    threads: &(impl Threads + Sync),
+    threads: &impl Execution,
     op: Cmp,
     a: &[i64],
     b: &[i64],
@@ -48,7 +47,7 @@ fn compares(
 /// Whether the operation gives the truth values wanted, in one run.
 fn makes_b(
     rt: &HostRuntime,
-    threads: &(impl Threads + Sync),
+    threads: &impl Execution,
     op: B2,
     a: &[bool],
     b: &[bool],

@@ -1,15 +1,15 @@
 //! Scans and reductions of segments, empty ones among them, and of the ends of the range.
 
 use super::cut;
-use crate::{Meter, ScanB, ScanZ, reduce_b, reduce_z, scan_b, scan_z};
+use crate::{Execution, Meter, ScanB, ScanZ, reduce_b, reduce_z, scan_b, scan_z};
 use std::alloc::Global;
 use std::process::Abort;
 use std::test::Fail;
 use std::thread::Threads;
 
 /// The scan, where the lengths add up to the items and one run was counted.
-fn scanned_z(
-    rt: &(impl Abort + Threads + Sync),
+fn scanned_z<R: Abort + Threads + Execution<Shared = R> + Sync>(
+    rt: &R,
     alloc: Global,
     op: ScanZ,
     items: &[i64],
@@ -24,8 +24,8 @@ fn scanned_z(
 }
 
 /// The reductions, where the lengths add up to the items and one run was counted.
-fn reduced_z(
-    rt: &(impl Abort + Threads + Sync),
+fn reduced_z<R: Abort + Threads + Execution<Shared = R> + Sync>(
+    rt: &R,
     alloc: Global,
     op: ScanZ,
     items: &[i64],

@@ -2,6 +2,7 @@
 
 use super::{OPERAND_LINES, OPERANDS};
 use crate::program::ends_with;
+use scan_kernels::Execution;
 use std::alloc::{Alloc, Global};
 use std::sync::Wait;
 use std::test::Fail;
@@ -42,8 +43,8 @@ static WRITTEN: [(&str, &str, &str, &str); 30] = [
 ];
 
 /// Whether this call has this reply, and the name then has this value.
-fn writes(
-    rt: &(impl Alloc<A = Global> + Threads + Wait + Sync),
+fn writes<R: Alloc<A = Global> + Threads + Wait + Execution<Shared = R> + Sync>(
+    rt: &R,
     call: &str,
     reply: &str,
     name: &str,

@@ -5,8 +5,8 @@ use Rattle.scan_kernels.proofs.NextSegment.{sum-take_more, segment_within}
 use Rattle.scan_kernels.proofs.Paired.{distributed_more, distributed_all}
 use Rattle.scan_kernels.proofs.distribute.distribute_each.Goals as goal
 
-pub repeat-requires-clause-room : goal.repeat-requires-clause-room
-repeat-requires-clause-room g c =
+pub repeat-requires : goal.repeat-requires
+repeat-requires g c =
     let ls = c.args.lengths.now in
     let j = c.loop-j.j in
     let within = segment_within ls j (sum (take j ls)) (sum ls) c.loop-j-test.true refl refl in

@@ -9,8 +9,8 @@ split_at-requires g c =
     let total = ap sum (all_ones ls (c.are_single.ensures.0 c.if-not-are_single.false)) ∙ sum-ones (length ls) in
     omega arith
 
-pub repeat-requires-clause-room : goal.repeat-requires-clause-room
-repeat-requires-clause-room g c =
+pub repeat-requires : goal.repeat-requires
+repeat-requires g c =
     let ls = c.args.lengths.now in
     let total = ap sum (all_ones ls (c.are_single.ensures.0 c.if-not-are_single.false)) ∙ sum-ones (length ls) in
     let front = c.split_at.ensures.front_len in

@@ -1,0 +1,86 @@
+//! Whether a kernel goes by chunks, and of how many items.
+
+ghost use Rattle.std.specs.Prelude.{◌≡◌, ◌<◌, IfOk, IfSome};
+ghost use Rattle.segment_desc.specs.Appended.{IsExact};
+ghost use Rattle.scan_kernels.specs.Lists.{FitBools, FitInts, bools_of, ints_of};
+
+use crate::execution::Execution;
+use crate::meter::{DEFAULT_CHUNK, Meter};
+use crate::rows::{BoolRow, IntRow, count_bools, count_ints};
+use crate::source::Source;
+use std::alloc::AllocError;
+
+/// From how many items on it repays to start threads that write over memory that is in use already: found by `bench chunks` on
+/// four processors, where they lost at half as many.
+const WRITES_PAY: usize = 1_000_000;
+
+/// The size of the chunks in which a kernel makes so many items one by one, if it goes by chunks. A size that a caller made
+/// smaller than `DEFAULT_CHUNK` is heeded always. Else there are no more chunks than processors, and there are chunks only
+/// where they pay: into fresh memory one thread is as fast as many, since most of the time goes into getting its pages.
+#[inline(always)]
+pub(crate) fn write_size<T: Copy>(
+    execution: &impl Execution,
+    source: &impl Source<T>,
+    meter: &Meter,
+    count: usize,
+) -> Option<usize>
+    ensures { IfSome result (λ size. 0 < size) }
+{
+    if count <= meter.chunk() {
+        return None;
+    }
+    let pays = count >= WRITES_PAY && source.is_ready(count);
+    chunk_size(execution, meter.chunk(), count, pays)
+}
+
+/// The size of the chunks of more items than one chunk has.
+fn chunk_size(execution: &impl Execution, chunk: usize, count: usize, pays: bool) -> Option<usize>
+    requires { 0 < chunk }
+    ensures { IfSome result (λ size. 0 < size) }
+{
+    if chunk < DEFAULT_CHUNK {
+        return Some(chunk);
+    }
+    if !pays {
+        return None;
+    }
+    let processors = execution.processors();
+    if processors < 2 {
+        return None;
+    }
+    Some(count.div_ceil(processors).max(chunk))
+}
+
+/// The integers that a kernel makes item by item, in chunks of a size.
+pub(crate) fn ints_by_chunks(
+    execution: &impl Execution,
+    source: impl Source<i64>,
+    row: IntRow<'_>,
+    size: usize,
+) -> Result<Vec<i64>, AllocError>
+    requires size { 0 < size }
+    requires fits { FitInts row }
+    ensures items { IfOk result (λ v. v.items ≡ ints_of row.entry) }
+    ensures exact { IfOk result (λ v. IsExact v) }
+{
+    let mut made = source.ready(0, count_ints(row))?;
+    execution.write_ints(row, size, &mut made);
+    Ok(made)
+}
+
+/// The truth values that a kernel makes item by item, in chunks of a size.
+pub(crate) fn bools_by_chunks(
+    execution: &impl Execution,
+    source: impl Source<bool>,
+    row: BoolRow<'_>,
+    size: usize,
+) -> Result<Vec<bool>, AllocError>
+    requires size { 0 < size }
+    requires fits { FitBools row }
+    ensures items { IfOk result (λ v. v.items ≡ bools_of row.entry) }
+    ensures exact { IfOk result (λ v. IsExact v) }
+{
+    let mut made = source.ready(false, count_bools(row))?;
+    execution.write_bools(row, size, &mut made);
+    Ok(made)
+}

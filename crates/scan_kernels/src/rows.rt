@@ -1,0 +1,144 @@
+//! The lists that kernels make item by item, as one type for each kind of item: what an execution policy writes by chunks.
+
+ghost use Rattle.std.specs.Prelude.{◌≡◌, ◌+◌, ◌<◌, ◌≤◌, ◌^◌, length, take, drop};
+ghost use Rattle.scan_kernels.specs.Lists.{FitBools, FitInts, bools_of, ints_of};
+
+use crate::choices::{by_b1, by_b2, by_comparison, by_name, by_z1, by_z2};
+use crate::lists::{
+    AlteredBools, AlteredInts, AppliedBools, AppliedInts, Compared, Numbers, Selected, Truths,
+};
+use crate::placewise::{Placewise, write_from};
+use item_operations::{B1, B2, Cmp, Z1, Z2};
+
+/// Integers that a kernel makes item by item.
+#[derive(Clone, Copy)]
+pub enum IntRow<'a> {
+    Altered(AlteredInts<'a>),
+    Applied(AppliedInts<'a>),
+    Numbers(Numbers<'a>),
+    Selected(Selected<'a, i64>),
+}
+
+/// How many integers there are.
+#[tactic(auto, using(crate::proofs::Placed::paired_long, crate::proofs::Placed::chosen_long))]
+pub fn count_ints(row: IntRow<'_>) -> usize
+    requires { FitInts row }
+    ensures { result ≡ length (ints_of row.entry) }
+{
+    match row {
+        IntRow::Altered(list) => list.count(),
+        IntRow::Applied(list) => list.count(),
+        IntRow::Numbers(list) => list.count(),
+        IntRow::Selected(list) => list.count(),
+    }
+}
+
+/// Writes the integers from a place on, as many as the part has.
+pub fn write_ints(row: IntRow<'_>, start: usize, part: &mut [i64])
+    requires fits { FitInts row }
+    requires within { start + length part.old ≤ length (ints_of row) }
+    requires small { start + length part.old < 2 ^ 64 }
+    ensures { part.new ≡ take (length part.old) (drop start (ints_of row.entry)) }
+{
+    match row {
+        IntRow::Altered(list) => write_altered_ints(list, start, part),
+        IntRow::Applied(list) => write_applied_ints(list, start, part),
+        IntRow::Numbers(list) => write_from(&list, start, part),
+        IntRow::Selected(list) => write_from(&list, start, part),
+    }
+}
+
+fn write_altered_ints(list: AlteredInts<'_>, start: usize, part: &mut [i64])
+    requires within { start + length part.old ≤ length (ints_of (IntRow.Altered list)) }
+    requires small { start + length part.old < 2 ^ 64 }
+    ensures { part.new ≡ take (length part.old) (drop start (ints_of (IntRow.Altered list.entry))) }
+{
+    let AlteredInts { op, items } = list;
+    by_z1!(op, write_from(&AlteredInts { op, items }, start, part))
+}
+
+fn write_applied_ints(list: AppliedInts<'_>, start: usize, part: &mut [i64])
+    requires fits { FitInts (IntRow.Applied list) }
+    requires within { start + length part.old ≤ length (ints_of (IntRow.Applied list)) }
+    requires small { start + length part.old < 2 ^ 64 }
+    ensures { part.new ≡ take (length part.old) (drop start (ints_of (IntRow.Applied list.entry))) }
+{
+    let AppliedInts { op, left, right } = list;
+    by_z2!(
+        op,
+        write_from(&AppliedInts { op, left, right }, start, part)
+    )
+}
+
+/// Truth values that a kernel makes item by item.
+#[derive(Clone, Copy)]
+pub enum BoolRow<'a> {
+    Altered(AlteredBools<'a>),
+    Applied(AppliedBools<'a>),
+    Compared(Compared<'a>),
+    Truths(Truths<'a>),
+    Selected(Selected<'a, bool>),
+}
+
+/// How many truth values there are.
+#[tactic(auto, using(crate::proofs::Placed::paired_long, crate::proofs::Placed::chosen_long))]
+pub fn count_bools(row: BoolRow<'_>) -> usize
+    requires { FitBools row }
+    ensures { result ≡ length (bools_of row.entry) }
+{
+    match row {
+        BoolRow::Altered(list) => list.count(),
+        BoolRow::Applied(list) => list.count(),
+        BoolRow::Compared(list) => list.count(),
+        BoolRow::Truths(list) => list.count(),
+        BoolRow::Selected(list) => list.count(),
+    }
+}
+
+/// Writes the truth values from a place on, as many as the part has.
+pub fn write_bools(row: BoolRow<'_>, start: usize, part: &mut [bool])
+    requires fits { FitBools row }
+    requires within { start + length part.old ≤ length (bools_of row) }
+    requires small { start + length part.old < 2 ^ 64 }
+    ensures { part.new ≡ take (length part.old) (drop start (bools_of row.entry)) }
+{
+    match row {
+        BoolRow::Altered(list) => write_altered_bools(list, start, part),
+        BoolRow::Applied(list) => write_applied_bools(list, start, part),
+        BoolRow::Compared(list) => write_compared(list, start, part),
+        BoolRow::Truths(list) => write_from(&list, start, part),
+        BoolRow::Selected(list) => write_from(&list, start, part),
+    }
+}
+
+fn write_altered_bools(list: AlteredBools<'_>, start: usize, part: &mut [bool])
+    requires within { start + length part.old ≤ length (bools_of (BoolRow.Altered list)) }
+    requires small { start + length part.old < 2 ^ 64 }
+    ensures { part.new ≡ take (length part.old) (drop start (bools_of (BoolRow.Altered list.entry))) }
+{
+    let AlteredBools { op, items } = list;
+    by_b1!(op, write_from(&AlteredBools { op, items }, start, part))
+}
+
+fn write_applied_bools(list: AppliedBools<'_>, start: usize, part: &mut [bool])
+    requires fits { FitBools (BoolRow.Applied list) }
+    requires within { start + length part.old ≤ length (bools_of (BoolRow.Applied list)) }
+    requires small { start + length part.old < 2 ^ 64 }
+    ensures { part.new ≡ take (length part.old) (drop start (bools_of (BoolRow.Applied list.entry))) }
+{
+    let AppliedBools { op, left, right } = list;
+    by_b2!(
+        op,
+        write_from(&AppliedBools { op, left, right }, start, part)
+    )
+}
+
+fn write_compared(list: Compared<'_>, start: usize, part: &mut [bool])
+    requires fits { FitBools (BoolRow.Compared list) }
+    requires within { start + length part.old ≤ length (bools_of (BoolRow.Compared list)) }
+    requires small { start + length part.old < 2 ^ 64 }
+    ensures { part.new ≡ take (length part.old) (drop start (bools_of (BoolRow.Compared list.entry))) }
+{
+    let Compared { op, left, right } = list;
+    by_comparison!(op, write_from(&Compared { op, left, right }, start, part))
+}
