@@ -1,9 +1,14 @@
-//! The rows of kernels in chunks: additions and choices item by item into fresh memory and over a vector that was kept, in one
-//! thread and by a runtime with threads. The ways take turns, and of each the least time counts.
+//! The rows of kernels in chunks: each kernel into fresh memory and over a vector that was kept, in one thread and by a runtime
+//! with threads. The ways take turns, and of each the least time counts.
 
 use crate::inputs::Inputs;
 use crate::runs::Failure;
-use scan_kernels::{Execution, Kept, Meter, Sequential, Z2, map2_z, select_z};
+use permute_kernels::{are_places, gather_z, is_whole_permutation, pack_z, permute_whole_z};
+use scan_kernels::{
+    Execution, Kept, Meter, ScanZ, Sequential, Z2, map2_z, reduce_whole_z, reduce_z, scan_whole_z,
+    scan_z, select_z,
+};
+use segment_desc::Segd;
 use std::alloc::Global;
 use std::rt::Clock;
 use std::thread::Threads;
@@ -16,18 +21,45 @@ const SIZES: [u32; 6] = [65_536, 131_072, 262_144, 524_288, 1_000_000, 16_000_00
 /// How many times each way is timed.
 const REPEATS: u32 = 30;
 
-/// A kernel that makes its result item by item.
+/// A kernel over one of the inputs.
 #[derive(Clone, Copy)]
 enum Row {
     Add,
     Select,
+    Scan,
+    SegmentedScan,
+    Reduce,
+    SegmentedReduce,
+    Gather,
+    Permute,
+    Pack,
 }
+
+/// In the order of the rows.
+const ROWS: [Row; 9] = [
+    Row::Add,
+    Row::Select,
+    Row::Scan,
+    Row::SegmentedScan,
+    Row::Reduce,
+    Row::SegmentedReduce,
+    Row::Gather,
+    Row::Permute,
+    Row::Pack,
+];
 
 impl Row {
     fn name(self) -> &'static str {
         match self {
             Row::Add => "add",
             Row::Select => "select",
+            Row::Scan => "scan",
+            Row::SegmentedScan => "segscan",
+            Row::Reduce => "reduce",
+            Row::SegmentedReduce => "segreduce",
+            Row::Gather => "gather",
+            Row::Permute => "permute",
+            Row::Pack => "pack",
         }
     }
 
@@ -39,23 +71,130 @@ impl Row {
         inputs: &Inputs,
         kept: Vec<i64>,
     ) -> Result<Vec<i64>, Failure> {
-        let count = inputs.left.len();
-        if inputs.right.len() != count || inputs.flags.len() != count {
-            return Err(Failure::Uneven);
+        let (items, flags) = (inputs.left.as_slice(), inputs.flags.as_slice());
+        match self {
+            Row::Add => add(execution, meter, items, &inputs.right, kept),
+            Row::Select => select(execution, meter, flags, items, &inputs.right, kept),
+            Row::Scan => Ok(scan_whole_z(execution, Kept::new(kept), meter, ScanZ::Add, items)?),
+            Row::SegmentedScan => scan(execution, meter, items, &inputs.mixed, kept),
+            Row::Reduce => {
+                let _sum = reduce_whole_z(execution, meter, ScanZ::Add, items);
+                Ok(kept)
+            }
+            Row::SegmentedReduce => reduce(execution, meter, items, &inputs.mixed, kept),
+            Row::Gather => gather(execution, meter, items, &inputs.index, kept),
+            Row::Permute => permute(execution, meter, items, &inputs.index, kept),
+            Row::Pack => pack(execution, meter, items, flags, kept),
         }
-        let kept = Kept::new(kept);
-        Ok(match self {
-            Row::Add => map2_z(execution, kept, meter, Z2::Add, &inputs.left, &inputs.right)?,
-            Row::Select => select_z(
-                execution,
-                kept,
-                meter,
-                &inputs.flags,
-                &inputs.left,
-                &inputs.right,
-            )?,
-        })
     }
+}
+
+fn add(
+    execution: &impl Execution,
+    meter: &mut Meter,
+    left: &[i64],
+    right: &[i64],
+    kept: Vec<i64>,
+) -> Result<Vec<i64>, Failure> {
+    if left.len() != right.len() {
+        return Err(Failure::Uneven);
+    }
+    Ok(map2_z(execution, Kept::new(kept), meter, Z2::Add, left, right)?)
+}
+
+fn select(
+    execution: &impl Execution,
+    meter: &mut Meter,
+    flags: &[bool],
+    set: &[i64],
+    unset: &[i64],
+    kept: Vec<i64>,
+) -> Result<Vec<i64>, Failure> {
+    if flags.len() != set.len() || flags.len() != unset.len() {
+        return Err(Failure::Uneven);
+    }
+    Ok(select_z(execution, Kept::new(kept), meter, flags, set, unset)?)
+}
+
+fn scan(
+    execution: &impl Execution,
+    meter: &mut Meter,
+    items: &[i64],
+    segments: &Segd,
+    kept: Vec<i64>,
+) -> Result<Vec<i64>, Failure> {
+    if segments.total() != items.len() {
+        return Err(Failure::Uneven);
+    }
+    Ok(scan_z(
+        execution,
+        Kept::new(kept),
+        meter,
+        ScanZ::Add,
+        items,
+        segments,
+    )?)
+}
+
+fn reduce(
+    execution: &impl Execution,
+    meter: &mut Meter,
+    items: &[i64],
+    segments: &Segd,
+    kept: Vec<i64>,
+) -> Result<Vec<i64>, Failure> {
+    if segments.total() != items.len() {
+        return Err(Failure::Uneven);
+    }
+    Ok(reduce_z(
+        execution,
+        Kept::new(kept),
+        meter,
+        ScanZ::Add,
+        items,
+        segments,
+    )?)
+}
+
+// With the test of its index, as a call makes it.
+fn gather(
+    execution: &impl Execution,
+    meter: &mut Meter,
+    items: &[i64],
+    index: &[i64],
+    kept: Vec<i64>,
+) -> Result<Vec<i64>, Failure> {
+    if !are_places(index, items.len()) {
+        return Err(Failure::Uneven);
+    }
+    Ok(gather_z(execution, Kept::new(kept), meter, items, index)?)
+}
+
+// With the test of its index, as a call makes it.
+fn permute(
+    execution: &impl Execution,
+    meter: &mut Meter,
+    items: &[i64],
+    index: &[i64],
+    kept: Vec<i64>,
+) -> Result<Vec<i64>, Failure> {
+    if index.len() != items.len() || !is_whole_permutation(*kept.allocator(), index)? {
+        return Err(Failure::Uneven);
+    }
+    Ok(permute_whole_z(execution, Kept::new(kept), meter, items, index)?)
+}
+
+fn pack(
+    execution: &impl Execution,
+    meter: &mut Meter,
+    items: &[i64],
+    flags: &[bool],
+    kept: Vec<i64>,
+) -> Result<Vec<i64>, Failure> {
+    if flags.len() != items.len() {
+        return Err(Failure::Uneven);
+    }
+    Ok(pack_z(execution, Kept::new(kept), meter, items, flags)?)
 }
 
 /// The time of one run, in nanoseconds. A fresh result is one for which nothing is kept.
@@ -101,7 +240,7 @@ pub fn rows<R: Alloc<A = Global> + Clock + Print + Threads + Execution<Shared = 
 ) -> io::Result<()> {
     for size in SIZES {
         let inputs = Inputs::new(rt.alloc(), size)?;
-        for row in [Row::Add, Row::Select] {
+        for row in ROWS {
             for fresh in [false, true] {
                 let (alone, threads) = least(rt, row, &inputs, fresh)?;
                 let memory = if fresh { "fresh" } else { "kept" };

@@ -4,9 +4,9 @@ use Rattle.std.specs.Prelude.{◌==◌}
 use Rattle.std.specs.List.{list_all}
 use Rattle.std.proofs.Math.Nat.{le_trans}
 use Rattle.std.proofs.lemmas.Bool.{eqb-true}
-use Rattle.permute_kernels.specs.Permuted.{permuted, segmented_permute}
-use Rattle.permute_kernels.specs.Gathered.{gathered, segmented_gather}
-use Rattle.permute_kernels.specs.Packed.{packed}
+use Rattle.scan_kernels.specs.Permuted.{permuted, segmented_permute}
+use Rattle.scan_kernels.specs.Gathered.{gathered, segmented_gather}
+use Rattle.scan_kernels.specs.Packed.{packed}
 use Rattle.vector_memory.specs.Contents.{size_of}
 use Rattle.cvl_text.specs.declared.fault.Fault.TheVariants.{BadIndex, BadSegments, WrongLength}
 use Rattle.cvl_text.specs.declared.word.Kind.{Kind}

@@ -4,7 +4,7 @@ use Rattle.std.specs.Prelude.{not, unsigned_abs, slice_set}
 use Rattle.std.proofs.lemmas.Bool.{leb-true}
 use Rattle.std.proofs.lemmas.List.{length-map, length-replicate, length-set}
 use Rattle.segment_desc.specs.Lengths.{has_negative, sizes}
-use Rattle.permute_kernels.specs.Gathered.{item_at}
+use Rattle.scan_kernels.specs.Gathered.{item_at}
 use Rattle.cvl_text.specs.declared.fault.Fault.TheVariants.{BadSegments, BadIndex, TooLong}
 use Rattle.cvl_calls.specs.Conditions.{is_place, found}
 use Rattle.cvl_calls.specs.Operands.{any_value, ints, segs, number, count, ItemType}

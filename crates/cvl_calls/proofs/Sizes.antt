@@ -10,12 +10,12 @@ use Rattle.scan_kernels.specs.Distributed.{distributed}
 use Rattle.scan_kernels.specs.Elementwise.{item_by_item, selected}
 use Rattle.scan_kernels.specs.Indexed.{index_at, indexed, segmented_index}
 use Rattle.scan_kernels.specs.Segmented.{reduced, scanned, segmented_scan, segmented_reduce}
-use Rattle.permute_kernels.specs.Gathered.{item_at, gathered, segmented_gather}
-use Rattle.permute_kernels.specs.Indices.{HoldsEachPlaceOnce, PermuteSegments}
-use Rattle.permute_kernels.specs.Packed.{packed, number_set, numbers_set}
-use Rattle.permute_kernels.specs.Permuted.{permuted, segmented_permute, sent_to}
+use Rattle.scan_kernels.specs.Gathered.{item_at, gathered, segmented_gather}
+use Rattle.scan_kernels.specs.Indices.{HoldsEachPlaceOnce, PermuteSegments}
+use Rattle.scan_kernels.specs.Packed.{packed, number_set, numbers_set}
+use Rattle.scan_kernels.specs.Permuted.{permuted, segmented_permute, sent_to}
 use Rattle.permute_kernels.proofs.Segments.{length_cut}
-use Rattle.permute_kernels.proofs.Sending.{flat_map-range_push, sent_one}
+use Rattle.scan_kernels.proofs.Sending.{flat_map-range_push, sent_one}
 use Rattle.std.proofs.lemmas.List.Elements.{All-head, All-tail}
 
 pub length-item_by_item : {X Y Z : Type 0} (f : X → Y → Z) (xs : List X) (ys : List Y) → length (item_by_item f xs ys) ≤ length xs

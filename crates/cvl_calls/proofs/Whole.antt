@@ -3,8 +3,8 @@ use Rattle.std.proofs.Common.{◌≡◌, ℕ, List, [], ◌∷◌, ◌++◌, len
 use Rattle.std.proofs.lemmas.List.{length-drop, length-take, take-append-drop}
 use Rattle.std.proofs.lemmas.List.Sums.{sum_by-cons}
 use Rattle.segment_desc.specs.Cut.{cut}
-use Rattle.permute_kernels.specs.Packed.{packed}
-use Rattle.permute_kernels.proofs.Joining.{packed-append}
+use Rattle.scan_kernels.specs.Packed.{packed}
+use Rattle.scan_kernels.proofs.PackedLists.{packed-append}
 use Rattle.vector_memory.specs.Contents.{Content, Ints, Bools, Segs, size_of}
 use Rattle.cvl_calls.specs.Operands.{over_items}
 use Rattle.cvl_calls.specs.SegmentedPack.{segmented_pack}

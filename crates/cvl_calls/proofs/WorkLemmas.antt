@@ -7,7 +7,7 @@ use Rattle.item_operations.specs.BooleanOps.{apply_b, alter_b}
 use Rattle.item_operations.specs.IntegerScans.{combine_z, unit_z}
 use Rattle.item_operations.specs.BooleanScans.{combine_b, unit_b}
 use Rattle.scan_kernels.specs.Elementwise.{is_true, as_number}
-use Rattle.permute_kernels.specs.Gathered.{item_at}
+use Rattle.scan_kernels.specs.Gathered.{item_at}
 use Rattle.vector_memory.specs.declared.name.Name.{Name}
 use Rattle.vector_memory.specs.Contents.{size_of}
 use Rattle.vector_memory.specs.States.{State}

@@ -5,7 +5,7 @@ use Rattle.std.specs.Ordering.{int_eq}
 use Rattle.segment_desc.specs.Cut.{cut}
 use Rattle.item_operations.specs.declared.operation.Z2.{Z2}
 use Rattle.item_operations.specs.declared.operation.Z2.TheVariants.{Div, Mod, Lsh, Rsh}
-use Rattle.permute_kernels.specs.Indices.{times_held}
+use Rattle.scan_kernels.specs.Indices.{times_held}
 use Rattle.cvl_text.specs.declared.fault.Fault.{Fault}
 use Rattle.cvl_text.specs.declared.fault.Fault.TheVariants.{WrongLength, BadSegments, ZeroDivisor, BadShift}
 use Rattle.cvl_calls.specs.Outcomes.{check}

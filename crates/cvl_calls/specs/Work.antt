@@ -12,9 +12,9 @@ use Rattle.scan_kernels.specs.Elementwise.{item_by_item, selected, is_true, as_n
 use Rattle.scan_kernels.specs.Segmented.{reduced, scanned, segmented_scan, segmented_reduce}
 use Rattle.scan_kernels.specs.Distributed.{distributed}
 use Rattle.scan_kernels.specs.Indexed.{indexed, segmented_index}
-use Rattle.permute_kernels.specs.Permuted.{permuted, segmented_permute}
-use Rattle.permute_kernels.specs.Gathered.{item_at, gathered, segmented_gather}
-use Rattle.permute_kernels.specs.Packed.{packed, numbers_set}
+use Rattle.scan_kernels.specs.Permuted.{permuted, segmented_permute}
+use Rattle.scan_kernels.specs.Gathered.{item_at, gathered, segmented_gather}
+use Rattle.scan_kernels.specs.Packed.{packed, numbers_set}
 use Rattle.cvl_calls.specs.SegmentedPack.{segmented_pack}
 use Rattle.vector_memory.specs.Contents.{Ints, Segs, size_of}
 use Rattle.cvl_text.specs.declared.fault.Fault.{Fault}

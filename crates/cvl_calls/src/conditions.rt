@@ -4,7 +4,7 @@
 ghost use Rattle.std.specs.Prelude.{[], ◌≡◌, ◌∷◌, length, sum, true, All, IfOk, OnOk};
 ghost use Rattle.std.specs.List.{list_all};
 ghost use Rattle.item_operations.specs.IntegerOps.{IsAllowed, IsDivisor, IsShift};
-ghost use Rattle.permute_kernels.specs.Indices.{HoldsEachPlaceOnce, IsPlaceOf, LieWithin, PermuteSegments};
+ghost use Rattle.scan_kernels.specs.Indices.{HoldsEachPlaceOnce, IsPlaceOf, LieWithin, PermuteSegments};
 ghost use Rattle.cvl_calls.specs.Outcomes.{GivesBy, check};
 ghost use Rattle.cvl_calls.specs.Conditions.{has_all, has_each, holds_each_place, is_divisor, is_place, is_shift, lies_within, permutes, same_length, seconds};
 

@@ -7,8 +7,8 @@ use Rattle.std.proofs.lemmas.List.Concat.{flat_map-append}
 use Rattle.std.proofs.lemmas.List.Elements.{filter_map-append}
 use Rattle.std.proofs.lemmas.Option.{slice_get-get_or}
 use Rattle.segment_desc.specs.Cut.{cut}
-use Rattle.permute_kernels.specs.Gathered.{gathered, item_at, segmented_gather}
-use Rattle.permute_kernels.specs.Indices.{IsPlaceOf, LieWithin}
+use Rattle.scan_kernels.specs.Gathered.{gathered, item_at, segmented_gather}
+use Rattle.scan_kernels.specs.Indices.{IsPlaceOf, LieWithin}
 use Rattle.permute_kernels.proofs.Segments.{AllZip_at, AllZip_push, cut_more, length_cut, length_segment, next_segment, segment_at, zip_push}
 
 -- which places each segment holds, segment by segment

@@ -1,17 +1,15 @@
 -- The kernels give on joined operands what they give on each, joined: `segmented_permute-append`,
--- `segmented_gather-append`, `packed-append`, `numbers_set-append`. `length-packed`: how many items a pack keeps.
-use Rattle.std.proofs.Common.{◌≡◌, ℕ, List, [], ◌∷◌, ◌++◌, length, map, refl, sym, ap, ◌∙◌, sum, zip, ℤ, pos, Bool, true, false, cond, arith}
-use Rattle.std.specs.List.{filter, flat_map}
+-- `segmented_gather-append`, `numbers_set-append`.
+use Rattle.std.proofs.Common.{◌≡◌, ℕ, List, ◌++◌, length, map, sym, ap, ◌∙◌, sum, zip, ℤ, pos, Bool}
+use Rattle.std.specs.List.{flat_map}
 use Rattle.std.proofs.lemmas.List.{map-append}
 use Rattle.std.proofs.lemmas.List.Concat.{flat_map-append}
-use Rattle.std.proofs.lemmas.List.Elements.{filter-append}
-use Rattle.std.proofs.lemmas.List.Sums.{sum_by-cons}
 use Rattle.segment_desc.specs.Cut.{cut}
 use Rattle.scan_kernels.proofs.CutLists.{cut-append}
 use Rattle.scan_kernels.proofs.Joining.{zip-append}
-use Rattle.permute_kernels.specs.Gathered.{gathered, segmented_gather}
-use Rattle.permute_kernels.specs.Packed.{number_set, numbers_set, packed}
-use Rattle.permute_kernels.specs.Permuted.{permuted, segmented_permute}
+use Rattle.scan_kernels.specs.Gathered.{gathered, segmented_gather}
+use Rattle.scan_kernels.specs.Packed.{number_set, numbers_set}
+use Rattle.scan_kernels.specs.Permuted.{permuted, segmented_permute}
 use Rattle.permute_kernels.proofs.Segments.{length_cut}
 
 module _ {X : Type 0} where
@@ -32,18 +30,6 @@ module _ {X : Type 0} where
       ∙ ap (λ b. flat_map read (zip (cut ss xs ++ cut us ys) b)) (cut-append ts vs is js total)
       ∙ ap (flat_map read) (zip-append (cut ss xs) (cut us ys) (cut ts is) (cut vs js) (length_cut ss xs ∙ counts ∙ sym (length_cut ts is)))
       ∙ flat_map-append read (zip (cut ss xs) (cut ts is)) (zip (cut us ys) (cut vs js))
-
-  pub packed-append : (fs gs : List Bool) (xs ys : List X) → length fs ≡ length xs → packed (fs ++ gs) (xs ++ ys) ≡ packed fs xs ++ packed gs ys
-  packed-append fs gs xs ys same =
-      ap (λ l. map (λ p. p.1) (filter (λ p. p.0) l)) (zip-append fs gs xs ys same)
-      ∙ ap (map (λ p. p.1)) (filter-append (λ p. p.0) (zip fs xs) (zip gs ys))
-      ∙ map-append (λ p. p.1) (filter (λ p. p.0) (zip fs xs)) (filter (λ p. p.0) (zip gs ys))
-
-  pub length-packed : (flags : List Bool) (xs : List X) → length flags ≡ length xs → length (packed flags xs) ≡ number_set flags
-  length-packed [] xs same = refl
-  length-packed (b ∷ flags) [] same = absurd (omega arith)
-  length-packed (true ∷ flags) (x ∷ xs) same = omega (arith, length-packed flags xs (omega arith), sum_by-cons {X = Bool} (λ b. cond b 1 0) true flags)
-  length-packed (false ∷ flags) (x ∷ xs) same = omega (arith, length-packed flags xs (omega arith), sum_by-cons {X = Bool} (λ b. cond b 1 0) false flags)
 
 pub numbers_set-append : (ks ls : List ℕ) (fs gs : List Bool) → sum ks ≡ length fs → numbers_set (ks ++ ls) (fs ++ gs) ≡ numbers_set ks fs ++ numbers_set ls gs
 numbers_set-append ks ls fs gs total =

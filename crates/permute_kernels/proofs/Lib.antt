@@ -1,4 +1,3 @@
-pub mod Counting
 pub mod Gathering
 pub mod Joining
 pub mod Marking
@@ -6,5 +5,3 @@ pub mod Packing
 pub mod Parts
 pub mod Placing
 pub mod Segments
-pub mod Sending
-pub mod UndoneMoves

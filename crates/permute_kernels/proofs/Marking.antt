@@ -6,9 +6,9 @@ use Rattle.std.proofs.lemmas.Bool.{cases_eq}
 use Rattle.std.proofs.lemmas.Bool.Decides.{nat_tests}
 use Rattle.std.proofs.lemmas.List.{take_all}
 use Rattle.std.proofs.lemmas.List.Sums.{count_by-le-length, count_by_more_no, sum_by-set}
-use Rattle.permute_kernels.specs.Indices.{HoldsEachPlaceOnce, times_held}
-use Rattle.permute_kernels.specs.Packed.{number_set}
-use Rattle.permute_kernels.proofs.Counting.{all_counted, held_more, held_twice}
+use Rattle.scan_kernels.specs.Indices.{HoldsEachPlaceOnce, times_held}
+use Rattle.scan_kernels.specs.Packed.{number_set}
+use Rattle.scan_kernels.proofs.Counting.{all_counted, held_more, held_twice}
 
 -- a place is marked where it stands among the first i indices, and stands there once
 abbrev pub Marks : List ℤ → ℕ → List Bool → Type 0

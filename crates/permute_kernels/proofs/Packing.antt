@@ -9,8 +9,8 @@ use Rattle.std.proofs.lemmas.List.Sums.{sum_by-append}
 use Rattle.std.proofs.lemmas.Slice.Zip.{length-zip, get_or-zip}
 use mir.Val.{bool_byte}
 use Rattle.segment_desc.specs.Cut.{cut}
-use Rattle.permute_kernels.specs.Packed.{number_set, numbers_set, packed}
-use Rattle.permute_kernels.proofs.Joining.{length-packed, packed-append}
+use Rattle.scan_kernels.specs.Packed.{number_set, numbers_set, packed}
+use Rattle.scan_kernels.proofs.PackedLists.{length-packed, packed-append}
 use Rattle.permute_kernels.proofs.Segments.{cut_more}
 
 -- what the first i pairs of a flag and an item keep

@@ -6,10 +6,11 @@ use Rattle.std.specs.List.{flat_map, AllByRecursion}
 use Rattle.std.proofs.lemmas.List.Elements.{recursion_from_All}
 use Rattle.segment_desc.specs.Cut.{cut, joined}
 use Rattle.scan_kernels.proofs.Joining.{cut-wholes}
-use Rattle.permute_kernels.specs.Gathered.{gathered, segmented_gather}
-use Rattle.permute_kernels.specs.Packed.{numbers_set, packed}
-use Rattle.permute_kernels.specs.Permuted.{permuted, segmented_permute}
-use Rattle.permute_kernels.proofs.Joining.{numbers_set-append, packed-append, segmented_gather-append, segmented_permute-append}
+use Rattle.scan_kernels.specs.Gathered.{gathered, segmented_gather}
+use Rattle.scan_kernels.specs.Packed.{numbers_set, packed}
+use Rattle.scan_kernels.specs.Permuted.{permuted, segmented_permute}
+use Rattle.scan_kernels.proofs.PackedLists.{packed-append}
+use Rattle.permute_kernels.proofs.Joining.{numbers_set-append, segmented_gather-append, segmented_permute-append}
 
 module _ {P X : Type 0} (items : P → List X) (index : P → List ℤ) (lengths : P → List ℕ) where
   permutes : (parts : List P) → AllByRecursion (λ p. (length (index p) ≡ length (items p)) × (sum (lengths p) ≡ length (index p))) parts

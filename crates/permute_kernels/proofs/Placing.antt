@@ -1,5 +1,5 @@
--- Items that are written to the places of an index: `place_below`, `placed_more` (one more item), `placed_all`, and
--- `permuted_more` (one more segment).
+-- Items that are written to the places of an index: `placed_more` (one more item), `placed_all`, and `permuted_more` (one
+-- more segment).
 use Rattle.std.proofs.Common.{◌≡◌, ℕ, ◌+◌, ◌-◌, ◌<◌, ◌≤◌, List, [], ◌∷◌, ◌++◌, length, take, drop, set, sym, ap, subst, ◌∙◌, get_or, sum, zip, ℤ, pos, Some, arith, get_or-set_same, get_or-set_other, inl, inr}
 use Rattle.std.specs.List.{AllZip, slice_get}
 use Rattle.std.proofs.lemmas.Bool.{cases_eq}
@@ -9,16 +9,11 @@ use Rattle.std.proofs.lemmas.Slice.{take-put_mid_below, between-put_mid}
 use borrow.Rule.Slice.PartMut.{put_mid}
 use Rattle.segment_desc.specs.Cut.{cut}
 use Rattle.scan_kernels.proofs.NextSegment.{segment_within}
-use Rattle.permute_kernels.specs.Indices.{IsPlaceOf, HoldsEachPlaceOnce}
-use Rattle.permute_kernels.specs.Permuted.{IsPermuted, IsPermutedBySegments}
-use Rattle.permute_kernels.proofs.Counting.{each_inside, held_apart}
+use Rattle.scan_kernels.proofs.Places.{place_below, same_place}
+use Rattle.scan_kernels.specs.Indices.{HoldsEachPlaceOnce}
+use Rattle.scan_kernels.specs.Permuted.{IsPermuted, IsPermutedBySegments}
+use Rattle.scan_kernels.proofs.Counting.{each_inside, held_apart}
 use Rattle.permute_kernels.proofs.Segments.{AllZip_push, cut_more, cut_same, length_cut, length_segment, zip_push}
-
-pub place_below : (n p : ℕ) (z : ℤ) → IsPlaceOf n z → z ≡ pos p → p < n
-place_below n p z h e = let at : IsPlaceOf n (pos p) = subst (IsPlaceOf n) e h in grind (arith, at.1)
-
-same_place : (p q : ℕ) → pos p ≡ pos q → p ≡ q
-same_place p q e = cc
 
 -- the items before i are at their places
 abbrev pub PlacedBefore : {X : Type 0} → List ℤ → List X → ℕ → List X → Type 0

@@ -3,8 +3,8 @@
 ghost use Rattle.std.specs.Prelude.{◌≡◌, length, sum, IfOk};
 ghost use Rattle.segment_desc.specs.Appended.{IsExact};
 ghost use Rattle.scan_kernels.specs.Metering.{CountsRun};
-ghost use Rattle.permute_kernels.specs.Indices.{LieWithin};
-ghost use Rattle.permute_kernels.specs.Gathered.{segmented_gather};
+ghost use Rattle.scan_kernels.specs.Indices.{LieWithin};
+ghost use Rattle.scan_kernels.specs.Gathered.{segmented_gather};
 
 use crate::gather::gather;
 use scan_kernels::{Execution, Meter, Source};

@@ -1,9 +1,9 @@
 //! Tests of indices, for a caller to make once before a kernel runs.
 
 ghost use Rattle.std.specs.Prelude.{◌≡◌, ◌↔◌, length, sum, replicate, false, All, IsTrue, IfOk};
-ghost use Rattle.permute_kernels.specs.Indices.{HoldsEachPlaceOnce, IsPlaceOf, LieWithin, PermuteSegments};
+ghost use Rattle.scan_kernels.specs.Indices.{HoldsEachPlaceOnce, IsPlaceOf, LieWithin, PermuteSegments};
 
-use crate::place::{is_place, place_of};
+use scan_kernels::{is_place, place_of};
 use segment_desc::{OutOfMemory, Segd};
 use std::alloc::{AllocError, Global};
 
@@ -25,7 +25,7 @@ pub fn is_whole_permutation(alloc: Global, index: &[i64]) -> Result<bool, OutOfM
     Ok(holds_each_once(index, seen.as_mut_slice()))
 }
 
-#[tactic(auto, unfolding(crate::specs::Indices::PermuteSegments))]
+#[tactic(auto, unfolding(scan_kernels::specs::Indices::PermuteSegments))]
 fn permutes_each(alloc: Global, index: &[i64], lengths: &[usize]) -> Result<bool, AllocError>
     requires { sum lengths.now ≡ length index.now }
     ensures { IfOk result (λ b. IsTrue b ↔ PermuteSegments lengths.now index.now) }

@@ -3,18 +3,20 @@
 ghost use Rattle.std.specs.Prelude.{◌≡◌, ◌+◌, ◌≤◌, length, vec_len, vec_capacity, All, IfOk};
 ghost use Rattle.segment_desc.specs.Appended.{Appends, IsExact};
 ghost use Rattle.scan_kernels.specs.Metering.{CountsRun};
-ghost use Rattle.permute_kernels.specs.Indices.{IsPlaceOf};
-ghost use Rattle.permute_kernels.specs.Gathered.{gathered};
+ghost use Rattle.scan_kernels.specs.Indices.{IsPlaceOf};
+ghost use Rattle.scan_kernels.specs.Gathered.{gathered};
 
-use crate::place::place_of;
-use scan_kernels::{Execution, Meter, Source};
+use scan_kernels::{
+    BoolRow, Execution, Gathered, IntRow, Meter, Source, bools_by_chunks, gather_size,
+    ints_by_chunks, place_of,
+};
 use segment_desc::OutOfMemory;
 use std::alloc::AllocError;
 
 /// For each index in order the integer at its place, in one pass into a vector of its final size. Each index is a place of
 /// the integers, as `are_places` tells.
 pub fn gather_z(
-    _execution: &impl Execution,
+    execution: &impl Execution,
     alloc: impl Source<i64>,
     meter: &mut Meter,
     items: &[i64],
@@ -25,14 +27,20 @@ pub fn gather_z(
     ensures exact { IfOk result (λ v. IsExact v) }
     ensures counted { CountsRun result meter.old meter.new }
 {
-    let made = gathered(alloc, items, index)?;
+    let made = match gather_size(execution, meter, index.len()) {
+        Some(size) => {
+            let row = IntRow::Gathered(Gathered { items, index });
+            ints_by_chunks(execution, alloc, row, size)?
+        }
+        None => gathered(alloc, items, index)?,
+    };
     meter.raise();
     Ok(made)
 }
 
 /// The same for truth values.
 pub fn gather_b(
-    _execution: &impl Execution,
+    execution: &impl Execution,
     alloc: impl Source<bool>,
     meter: &mut Meter,
     flags: &[bool],
@@ -43,7 +51,16 @@ pub fn gather_b(
     ensures exact { IfOk result (λ v. IsExact v) }
     ensures counted { CountsRun result meter.old meter.new }
 {
-    let made = gathered(alloc, flags, index)?;
+    let made = match gather_size(execution, meter, index.len()) {
+        Some(size) => {
+            let row = BoolRow::Gathered(Gathered {
+                items: flags,
+                index,
+            });
+            bools_by_chunks(execution, alloc, row, size)?
+        }
+        None => gathered(alloc, flags, index)?,
+    };
     meter.raise();
     Ok(made)
 }

@@ -2,10 +2,10 @@
 
 ghost use Rattle.std.specs.Prelude.{◌≡◌, ◌↔◌, ℕ, ℤ, pos, Bool, List, length, All, Some};
 ghost use Rattle.std.specs.List.{slice_get};
-ghost use Rattle.permute_kernels.specs.Gathered.{gathered};
-ghost use Rattle.permute_kernels.specs.Indices.{HoldsEachPlaceOnce, IsPlaceOf};
-ghost use Rattle.permute_kernels.specs.Packed.{number_set, packed};
-ghost use Rattle.permute_kernels.specs.Permuted.{IsPermuted, permuted};
+ghost use Rattle.scan_kernels.specs.Gathered.{gathered};
+ghost use Rattle.scan_kernels.specs.Indices.{HoldsEachPlaceOnce, IsPlaceOf};
+ghost use Rattle.scan_kernels.specs.Packed.{number_set, packed};
+ghost use Rattle.scan_kernels.specs.Permuted.{IsPermuted, permuted};
 
 /// An index that holds each place once moves the items in exactly one way, and permute and back permute by it undo one
 /// another.

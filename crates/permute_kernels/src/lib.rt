@@ -14,7 +14,6 @@ pub mod laws;
 mod pack;
 mod permute;
 mod permute_whole;
-mod place;
 #[cfg(test)]
 mod tests;
 

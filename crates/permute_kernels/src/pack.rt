@@ -3,7 +3,7 @@
 ghost use Rattle.std.specs.Prelude.{◌≡◌, ◌<◌, ◌≤◌, ◌^◌, ◌+◌, length, take, sum, IfOk};
 ghost use Rattle.segment_desc.specs.Appended.{IsExact};
 ghost use Rattle.scan_kernels.specs.Metering.{CountsRun};
-ghost use Rattle.permute_kernels.specs.Packed.{number_set, numbers_set, packed};
+ghost use Rattle.scan_kernels.specs.Packed.{number_set, numbers_set, packed};
 
 use scan_kernels::{Execution, Meter, Source};
 use segment_desc::{OutOfMemory, Segd, append_reserved};

@@ -3,11 +3,10 @@
 ghost use Rattle.std.specs.Prelude.{◌≡◌, length, sum, IfOk};
 ghost use Rattle.segment_desc.specs.Appended.{IsExact};
 ghost use Rattle.scan_kernels.specs.Metering.{CountsRun};
-ghost use Rattle.permute_kernels.specs.Indices.{HoldsEachPlaceOnce, PermuteSegments};
-ghost use Rattle.permute_kernels.specs.Permuted.{IsPermuted, IsPermutedBySegments, permuted, segmented_permute};
+ghost use Rattle.scan_kernels.specs.Indices.{HoldsEachPlaceOnce, PermuteSegments};
+ghost use Rattle.scan_kernels.specs.Permuted.{IsPermuted, IsPermutedBySegments, permuted, segmented_permute};
 
-use crate::place::place_of;
-use scan_kernels::{Execution, Meter, Source};
+use scan_kernels::{Execution, Meter, Source, place_of};
 use segment_desc::{OutOfMemory, Segd, append_reserved};
 use std::alloc::AllocError;
 

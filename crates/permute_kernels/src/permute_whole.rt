@@ -4,18 +4,21 @@
 ghost use Rattle.std.specs.Prelude.{◌≡◌, length, IfOk};
 ghost use Rattle.segment_desc.specs.Appended.{IsExact};
 ghost use Rattle.scan_kernels.specs.Metering.{CountsRun};
-ghost use Rattle.permute_kernels.specs.Indices.{HoldsEachPlaceOnce};
-ghost use Rattle.permute_kernels.specs.Permuted.{IsPermuted, permuted};
+ghost use Rattle.scan_kernels.specs.Indices.{HoldsEachPlaceOnce};
+ghost use Rattle.scan_kernels.specs.Permuted.{IsPermuted, permuted};
 
 use crate::permute::scatter;
-use scan_kernels::{Execution, Meter, Source};
+use scan_kernels::{
+    BoolRow, Execution, IntRow, Meter, Permuted, Source, bools_by_chunks, ints_by_chunks,
+    permute_size,
+};
 use segment_desc::{OutOfMemory, append_reserved};
 use std::alloc::AllocError;
 
 /// The integer at place i goes to the place that the index holds at i. There are as many indices as integers, and the index
 /// holds each of its places once, as `is_whole_permutation` tells. A copy, and one pass that writes over it.
 pub fn permute_whole_z(
-    _execution: &impl Execution,
+    execution: &impl Execution,
     alloc: impl Source<i64>,
     meter: &mut Meter,
     items: &[i64],
@@ -28,14 +31,20 @@ pub fn permute_whole_z(
     ensures exact { IfOk result (λ v. IsExact v) }
     ensures counted { CountsRun result meter.old meter.new }
 {
-    let made = permuted_whole(alloc, items, index)?;
+    let made = match permute_size(execution, meter, index.len()) {
+        Some(size) => {
+            let row = IntRow::Permuted(Permuted { items, index });
+            ints_by_chunks(execution, alloc, row, size)?
+        }
+        None => permuted_whole(alloc, items, index)?,
+    };
     meter.raise();
     Ok(made)
 }
 
 /// The same for truth values.
 pub fn permute_whole_b(
-    _execution: &impl Execution,
+    execution: &impl Execution,
     alloc: impl Source<bool>,
     meter: &mut Meter,
     flags: &[bool],
@@ -48,7 +57,16 @@ pub fn permute_whole_b(
     ensures exact { IfOk result (λ v. IsExact v) }
     ensures counted { CountsRun result meter.old meter.new }
 {
-    let made = permuted_whole(alloc, flags, index)?;
+    let made = match permute_size(execution, meter, index.len()) {
+        Some(size) => {
+            let row = BoolRow::Permuted(Permuted {
+                items: flags,
+                index,
+            });
+            bools_by_chunks(execution, alloc, row, size)?
+        }
+        None => permuted_whole(alloc, flags, index)?,
+    };
     meter.raise();
     Ok(made)
 }

@@ -1,5 +1,6 @@
 //! Each public kernel and test of indices on small vectors, with the count of runs.
 
+mod chunks;
 mod indices;
 mod joined;
 mod kept;

@@ -1,5 +1,8 @@
 pub mod BooleanLaws
 pub mod ByChoice
+pub mod Carried
+pub mod CarriedOn
+pub mod Counting
 pub mod CutLists
 pub mod IntegerLaws
 pub mod JoinedPairs
@@ -7,9 +10,16 @@ pub mod Joining
 pub mod Mapped
 pub mod NextSegment
 pub mod OneItem
+pub mod PackedLists
 pub mod Paired
+pub mod PartMoves
 pub mod Placed
+pub mod Places
+pub mod ReducedChunks
+pub mod ReducedParts
 pub mod ResultLengths
 pub mod Scanned
+pub mod Sending
 pub mod Tested
+pub mod UndoneMoves
 pub mod Written

@@ -1,9 +1,14 @@
 pub mod Distributed
+pub mod Edges
 pub mod Elementwise
+pub mod Gathered
 pub mod Indexed
+pub mod Indices
 pub mod Lists
 pub mod Metering
+pub mod Packed
 pub mod Pairs
 pub mod Parts
+pub mod Permuted
 pub mod Prefixes
 pub mod Segmented

@@ -1,8 +1,15 @@
--- What stands at each place of a list that a kernel makes item by item, and what its operands must meet.
-use Rattle.std.specs.Prelude.{◌≡◌, ℤ, Bool, List, length, map, All}
+-- What stands at each place of a list that a kernel makes, and what its operands must meet.
+use Rattle.std.specs.Prelude.{◌≡◌, ℤ, Bool, List, length, map, sum, All}
 use Rattle.item_operations.specs.BooleanOps.{alter_b, apply_b}
+use Rattle.item_operations.specs.BooleanScans.{combine_b, unit_b}
 use Rattle.item_operations.specs.IntegerOps.{IsAllowed, alter_z, apply_z, compares}
+use Rattle.item_operations.specs.IntegerScans.{combine_z, unit_z}
+use Rattle.scan_kernels.specs.Edges.{FitsEdge, FitsScan, carried_over}
 use Rattle.scan_kernels.specs.Elementwise.{as_number, is_true, item_by_item, selected}
+use Rattle.scan_kernels.specs.Gathered.{gathered}
+use Rattle.scan_kernels.specs.Indices.{HoldsEachPlaceOnce, IsPlaceOf}
+use Rattle.scan_kernels.specs.Permuted.{permuted}
+use Rattle.scan_kernels.specs.Segmented.{segmented_reduce, segmented_scan}
 use Rattle.scan_kernels.specs.declared.rows.IntRow.{IntRow}
 use Rattle.scan_kernels.specs.declared.rows.IntRow.TheVariants as ints
 use Rattle.scan_kernels.specs.declared.rows.BoolRow.{BoolRow}
@@ -12,28 +19,48 @@ use Rattle.scan_kernels.specs.declared.rows.BoolRow.TheVariants as bools
 abbrev pub ints_of : IntRow → List ℤ
 ints_of (ints.Altered l) = map (alter_z l.op) l.items.now
 ints_of (ints.Applied l) = item_by_item (apply_z l.op) l.left.now l.right.now
+ints_of (ints.Gathered l) = gathered l.index.now l.items.now
 ints_of (ints.Numbers l) = map as_number l.items.now
+ints_of (ints.Permuted l) = permuted l.index.now l.items.now
 ints_of (ints.Selected l) = selected l.flags.now l.set.now l.unset.now
+ints_of (ints.Reduced l) = segmented_reduce (combine_z l.op) (unit_z l.op) l.lengths.now l.items.now
+ints_of (ints.CarriedOver l) = map (carried_over (combine_z l.op) (unit_z l.op) l.items.now) l.edges.now
+ints_of (ints.Scanned l) = segmented_scan (combine_z l.op) (unit_z l.op) l.lengths.now l.items.now
 
--- their operands are of one length, and allowed
+-- their operands are of one length, and allowed; segments have all the items
 abbrev pub FitInts : IntRow → Type 0
 FitInts (ints.Altered l) = Unit {0}
 FitInts (ints.Applied l) = (length l.left.now ≡ length l.right.now) × All (IsAllowed l.op) l.right.now
+FitInts (ints.Gathered l) = All (IsPlaceOf (length l.items.now)) l.index.now
 FitInts (ints.Numbers l) = Unit {0}
+FitInts (ints.Permuted l) = (length l.index.now ≡ length l.items.now) × HoldsEachPlaceOnce l.index.now
 FitInts (ints.Selected l) = (length l.flags.now ≡ length l.set.now) × (length l.flags.now ≡ length l.unset.now)
+FitInts (ints.Reduced l) = sum l.lengths.now ≡ length l.items.now
+FitInts (ints.CarriedOver l) = All (FitsEdge (length l.items.now)) l.edges.now
+FitInts (ints.Scanned l) = FitsScan (combine_z l.op) (unit_z l.op) l.lengths.now l.items.now l.carries.now l.size
 
 -- the truth values
 abbrev pub bools_of : BoolRow → List Bool
 bools_of (bools.Altered l) = map (alter_b l.op) l.items.now
 bools_of (bools.Applied l) = item_by_item (apply_b l.op) l.left.now l.right.now
 bools_of (bools.Compared l) = item_by_item (compares l.op) l.left.now l.right.now
+bools_of (bools.Gathered l) = gathered l.index.now l.items.now
+bools_of (bools.Permuted l) = permuted l.index.now l.items.now
 bools_of (bools.Truths l) = map is_true l.items.now
 bools_of (bools.Selected l) = selected l.flags.now l.set.now l.unset.now
+bools_of (bools.Reduced l) = segmented_reduce (combine_b l.op) (unit_b l.op) l.lengths.now l.items.now
+bools_of (bools.CarriedOver l) = map (carried_over (combine_b l.op) (unit_b l.op) l.items.now) l.edges.now
+bools_of (bools.Scanned l) = segmented_scan (combine_b l.op) (unit_b l.op) l.lengths.now l.items.now
 
--- their operands are of one length
+-- their operands are of one length; segments have all the items
 abbrev pub FitBools : BoolRow → Type 0
 FitBools (bools.Altered l) = Unit {0}
 FitBools (bools.Applied l) = length l.left.now ≡ length l.right.now
 FitBools (bools.Compared l) = length l.left.now ≡ length l.right.now
+FitBools (bools.Gathered l) = All (IsPlaceOf (length l.items.now)) l.index.now
+FitBools (bools.Permuted l) = (length l.index.now ≡ length l.items.now) × HoldsEachPlaceOnce l.index.now
 FitBools (bools.Truths l) = Unit {0}
 FitBools (bools.Selected l) = (length l.flags.now ≡ length l.set.now) × (length l.flags.now ≡ length l.unset.now)
+FitBools (bools.Reduced l) = sum l.lengths.now ≡ length l.items.now
+FitBools (bools.CarriedOver l) = All (FitsEdge (length l.items.now)) l.edges.now
+FitBools (bools.Scanned l) = FitsScan (combine_b l.op) (unit_b l.op) l.lengths.now l.items.now l.carries.now l.size

@@ -1,6 +1,6 @@
 //! Whether a kernel goes by chunks, and of how many items.
 
-ghost use Rattle.std.specs.Prelude.{◌≡◌, ◌<◌, IfOk, IfSome};
+ghost use Rattle.std.specs.Prelude.{◌≡◌, ◌*◌, ◌<◌, ◌≤◌, IfOk, IfSome};
 ghost use Rattle.segment_desc.specs.Appended.{IsExact};
 ghost use Rattle.scan_kernels.specs.Lists.{FitBools, FitInts, bools_of, ints_of};
 
@@ -34,7 +34,12 @@ pub(crate) fn write_size<T: Copy>(
 }
 
 /// The size of the chunks of more items than one chunk has.
-fn chunk_size(execution: &impl Execution, chunk: usize, count: usize, pays: bool) -> Option<usize>
+pub(crate) fn chunk_size(
+    execution: &impl Execution,
+    chunk: usize,
+    count: usize,
+    pays: bool,
+) -> Option<usize>
     requires { 0 < chunk }
     ensures { IfSome result (λ size. 0 < size) }
 {
@@ -51,8 +56,52 @@ fn chunk_size(execution: &impl Execution, chunk: usize, count: usize, pays: bool
     Some(count.div_ceil(processors).max(chunk))
 }
 
+/// From how many items on it repays to start threads that read at scattered places, also into fresh memory: a first guess, to
+/// be measured by `bench chunks`.
+const GATHERS_PAY: usize = 262_144;
+
+/// The size of the chunks in which a kernel reads so many items at scattered places, if it goes by chunks: where they pay, into
+/// fresh memory as well, since most of the time goes into the reads.
+pub fn gather_size(execution: &impl Execution, meter: &Meter, count: usize) -> Option<usize>
+    ensures { IfSome result (λ size. 0 < size) }
+{
+    if count <= meter.chunk() {
+        return None;
+    }
+    chunk_size(execution, meter.chunk(), count, count >= GATHERS_PAY)
+}
+
+/// From how many items on it repays to start threads that each go through a whole index and write what falls into their part,
+/// also into fresh memory: a first guess, to be measured by `bench chunks`.
+const PERMUTES_PAY: usize = 262_144;
+
+/// The greatest number of chunks where each goes through the operands from their beginning, or where what is known of each lies
+/// on the stack.
+pub(crate) const MOST_CHUNKS: usize = 64;
+
+/// The size of the chunks, so that there are few enough.
+pub(crate) fn size_of_few(count: usize, size: usize) -> usize
+    requires { 0 < size }
+    ensures size { 0 < result }
+    ensures few { count ≤ MOST_CHUNKS * result }
+{
+    size.max(count.div_ceil(MOST_CHUNKS))
+}
+
+/// The size of the chunks in which a kernel moves so many items to scattered places, if it goes by chunks. There are few, since
+/// each goes through the whole index.
+pub fn permute_size(execution: &impl Execution, meter: &Meter, count: usize) -> Option<usize>
+    ensures { IfSome result (λ size. 0 < size) }
+{
+    if count <= meter.chunk() {
+        return None;
+    }
+    let size = chunk_size(execution, meter.chunk(), count, count >= PERMUTES_PAY)?;
+    Some(size_of_few(count, size))
+}
+
 /// The integers that a kernel makes item by item, in chunks of a size.
-pub(crate) fn ints_by_chunks(
+pub fn ints_by_chunks(
     execution: &impl Execution,
     source: impl Source<i64>,
     row: IntRow<'_>,
@@ -69,7 +118,7 @@ pub(crate) fn ints_by_chunks(
 }
 
 /// The truth values that a kernel makes item by item, in chunks of a size.
-pub(crate) fn bools_by_chunks(
+pub fn bools_by_chunks(
     execution: &impl Execution,
     source: impl Source<bool>,
     row: BoolRow<'_>,

@@ -36,7 +36,7 @@ pub fn write_bools_in_order(row: BoolRow<'_>, size: usize, list: &mut [bool])
 }
 
 /// Where the chunk that begins at a place of a list ends.
-fn end_of(start: usize, size: usize, length: usize) -> usize
+pub(crate) fn end_of(start: usize, size: usize, length: usize) -> usize
     requires size { 0 < size }
     requires place { start < length }
     ensures behind { start < result }

@@ -4,12 +4,14 @@
 //! They take an execution policy first, then the allocator or a vector for the result, then the meter.
 #![tactic(auto)]
 
+mod carries;
 mod choices;
 mod chunks;
 mod compare;
 mod conditions;
 mod convert;
 mod distribute;
+mod edges;
 mod execution;
 mod fill;
 mod in_order;
@@ -21,10 +23,17 @@ pub mod laws;
 mod lists;
 mod map;
 mod meter;
+mod moves;
+mod place;
 mod placewise;
 mod reduce;
+mod reduction_sizes;
+mod reductions;
+mod reductions_by_chunks;
 mod rows;
 mod scan;
+mod scans_by_chunks;
+mod scans_in_parts;
 mod select;
 mod singles;
 mod source;
@@ -32,6 +41,7 @@ mod source;
 mod tests;
 mod whole;
 
+pub use chunks::{bools_by_chunks, gather_size, ints_by_chunks, permute_size};
 pub use compare::compare2;
 pub use conditions::{divisors_ok, shifts_ok};
 pub use convert::{number, truth};
@@ -54,7 +64,10 @@ pub use lists::{
 };
 pub use map::{map1_b, map1_z, map2_b, map2_z};
 pub use meter::{DEFAULT_CHUNK, Meter};
+pub use moves::{Gathered, Permuted};
+pub use place::{is_place, place_of};
 pub use reduce::{reduce_b, reduce_z};
+pub use reductions::{ReducedBools, ReducedInts};
 pub use rows::{BoolRow, IntRow};
 pub use scan::{scan_b, scan_z};
 pub use select::{select_b, select_z};

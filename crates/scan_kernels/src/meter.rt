@@ -6,8 +6,7 @@ use std::marker::Model;
 /// How many items a chunk has where a meter is made without a number of its own.
 pub const DEFAULT_CHUNK: usize = 4_096;
 
-/// Counts the kernel runs, and says how many items a chunk has where a kernel goes by chunks. The kernels run in the
-/// calling thread, item after item, and do not heed the chunk yet.
+/// Counts the kernel runs, and says how many items a chunk has where a kernel goes by chunks.
 #[derive(Drop)]
 pub struct Meter {
     runs: u64,

@@ -8,8 +8,12 @@ ghost use Rattle.item_operations.specs.BooleanScans.{combine_b, unit_b};
 ghost use Rattle.scan_kernels.specs.Metering.{CountsRun};
 
 use crate::choices::{by_name, by_scan_b, by_scan_z};
+use crate::chunks::{bools_by_chunks, ints_by_chunks};
 use crate::execution::Execution;
 use crate::meter::Meter;
+use crate::reduction_sizes::segments_size;
+use crate::reductions::{ReducedBools, ReducedInts};
+use crate::rows::{BoolRow, IntRow};
 use crate::singles::{BLOCK, are_single};
 use crate::source::Source;
 use item_operations::{Combine, ScanB, ScanZ};
@@ -19,7 +23,7 @@ use std::alloc::AllocError;
 /// What the operation makes of each segment of integers, in one pass into a vector with one item for each segment. The
 /// segments have all the items together.
 pub fn reduce_z(
-    _execution: &impl Execution,
+    execution: &impl Execution,
     alloc: impl Source<i64>,
     meter: &mut Meter,
     op: ScanZ,
@@ -32,7 +36,13 @@ pub fn reduce_z(
     ensures counted { CountsRun result meter.old meter.new }
 {
     let lengths = segments.lengths();
-    let made = by_scan_z!(op, reduce(alloc, op, items, lengths)?);
+    let made = match segments_size(execution, meter, lengths.len(), items.len()) {
+        Some(size) => {
+            let row = IntRow::Reduced(ReducedInts { op, items, lengths });
+            ints_by_chunks(execution, alloc, row, size)?
+        }
+        None => by_scan_z!(op, reduce(alloc, op, items, lengths)?),
+    };
     meter.raise();
     Ok(made)
 }
@@ -40,7 +50,7 @@ pub fn reduce_z(
 /// What the operation makes of each segment of truth values, in one pass into a vector with one item for each segment. The
 /// segments have all the items together.
 pub fn reduce_b(
-    _execution: &impl Execution,
+    execution: &impl Execution,
     alloc: impl Source<bool>,
     meter: &mut Meter,
     op: ScanB,
@@ -53,7 +63,13 @@ pub fn reduce_b(
     ensures counted { CountsRun result meter.old meter.new }
 {
     let lengths = segments.lengths();
-    let made = by_scan_b!(op, reduce(alloc, op, items, lengths)?);
+    let made = match segments_size(execution, meter, lengths.len(), items.len()) {
+        Some(size) => {
+            let row = BoolRow::Reduced(ReducedBools { op, items, lengths });
+            bools_by_chunks(execution, alloc, row, size)?
+        }
+        None => by_scan_b!(op, reduce(alloc, op, items, lengths)?),
+    };
     meter.raise();
     Ok(made)
 }

@@ -1,26 +1,39 @@
-//! The lists that kernels make item by item, as one type for each kind of item: what an execution policy writes by chunks.
+//! The lists that kernels make, as one type for each kind of item: what an execution policy writes by chunks. Each part of such a
+//! list can be written by itself.
 
 ghost use Rattle.std.specs.Prelude.{◌≡◌, ◌+◌, ◌<◌, ◌≤◌, ◌^◌, length, take, drop};
 ghost use Rattle.scan_kernels.specs.Lists.{FitBools, FitInts, bools_of, ints_of};
 
+use crate::carries::CarriedOver;
 use crate::choices::{by_b1, by_b2, by_comparison, by_name, by_z1, by_z2};
 use crate::lists::{
     AlteredBools, AlteredInts, AppliedBools, AppliedInts, Compared, Numbers, Selected, Truths,
 };
+use crate::moves::{Gathered, Permuted};
 use crate::placewise::{Placewise, write_from};
-use item_operations::{B1, B2, Cmp, Z1, Z2};
+use crate::reductions::{
+    ReducedBools, ReducedInts, count_reduced_bools, count_reduced_ints, write_reduced_bools,
+    write_reduced_ints,
+};
+use crate::scans_in_parts::{Scanned, write_scanned_bools, write_scanned_ints};
+use item_operations::{B1, B2, Cmp, ScanB, ScanZ, Z1, Z2};
 
-/// Integers that a kernel makes item by item.
+/// Integers that a kernel makes.
 #[derive(Clone, Copy)]
 pub enum IntRow<'a> {
     Altered(AlteredInts<'a>),
     Applied(AppliedInts<'a>),
+    Gathered(Gathered<'a, i64>),
     Numbers(Numbers<'a>),
+    Permuted(Permuted<'a, i64>),
     Selected(Selected<'a, i64>),
+    Reduced(ReducedInts<'a>),
+    CarriedOver(CarriedOver<'a, ScanZ, i64>),
+    Scanned(Scanned<'a, ScanZ, i64>),
 }
 
 /// How many integers there are.
-#[tactic(auto, using(crate::proofs::Placed::paired_long, crate::proofs::Placed::chosen_long))]
+#[tactic(auto, using(crate::proofs::Placed::paired_long, crate::proofs::Placed::chosen_long, crate::proofs::Carried::scan_long))]
 pub fn count_ints(row: IntRow<'_>) -> usize
     requires { FitInts row }
     ensures { result ≡ length (ints_of row.entry) }
@@ -28,12 +41,18 @@ pub fn count_ints(row: IntRow<'_>) -> usize
     match row {
         IntRow::Altered(list) => list.count(),
         IntRow::Applied(list) => list.count(),
+        IntRow::Gathered(list) => list.count(),
         IntRow::Numbers(list) => list.count(),
+        IntRow::Permuted(list) => list.count(),
         IntRow::Selected(list) => list.count(),
+        IntRow::Reduced(list) => count_reduced_ints(list),
+        IntRow::CarriedOver(list) => list.count(),
+        IntRow::Scanned(list) => list.count(),
     }
 }
 
 /// Writes the integers from a place on, as many as the part has.
+#[tactic(auto, using(crate::proofs::Carried::scan_long))]
 pub fn write_ints(row: IntRow<'_>, start: usize, part: &mut [i64])
     requires fits { FitInts row }
     requires within { start + length part.old ≤ length (ints_of row) }
@@ -43,8 +62,13 @@ pub fn write_ints(row: IntRow<'_>, start: usize, part: &mut [i64])
     match row {
         IntRow::Altered(list) => write_altered_ints(list, start, part),
         IntRow::Applied(list) => write_applied_ints(list, start, part),
+        IntRow::Gathered(list) => write_from(&list, start, part),
         IntRow::Numbers(list) => write_from(&list, start, part),
+        IntRow::Permuted(list) => list.write(start, part),
         IntRow::Selected(list) => write_from(&list, start, part),
+        IntRow::Reduced(list) => write_reduced_ints(list, start, part),
+        IntRow::CarriedOver(list) => write_from(&list, start, part),
+        IntRow::Scanned(list) => write_scanned_ints(list, start, part),
     }
 }
 
@@ -70,18 +94,23 @@ fn write_applied_ints(list: AppliedInts<'_>, start: usize, part: &mut [i64])
     )
 }
 
-/// Truth values that a kernel makes item by item.
+/// Truth values that a kernel makes.
 #[derive(Clone, Copy)]
 pub enum BoolRow<'a> {
     Altered(AlteredBools<'a>),
     Applied(AppliedBools<'a>),
     Compared(Compared<'a>),
+    Gathered(Gathered<'a, bool>),
+    Permuted(Permuted<'a, bool>),
     Truths(Truths<'a>),
     Selected(Selected<'a, bool>),
+    Reduced(ReducedBools<'a>),
+    CarriedOver(CarriedOver<'a, ScanB, bool>),
+    Scanned(Scanned<'a, ScanB, bool>),
 }
 
 /// How many truth values there are.
-#[tactic(auto, using(crate::proofs::Placed::paired_long, crate::proofs::Placed::chosen_long))]
+#[tactic(auto, using(crate::proofs::Placed::paired_long, crate::proofs::Placed::chosen_long, crate::proofs::Carried::scan_long))]
 pub fn count_bools(row: BoolRow<'_>) -> usize
     requires { FitBools row }
     ensures { result ≡ length (bools_of row.entry) }
@@ -90,12 +119,18 @@ pub fn count_bools(row: BoolRow<'_>) -> usize
         BoolRow::Altered(list) => list.count(),
         BoolRow::Applied(list) => list.count(),
         BoolRow::Compared(list) => list.count(),
+        BoolRow::Gathered(list) => list.count(),
+        BoolRow::Permuted(list) => list.count(),
         BoolRow::Truths(list) => list.count(),
         BoolRow::Selected(list) => list.count(),
+        BoolRow::Reduced(list) => count_reduced_bools(list),
+        BoolRow::CarriedOver(list) => list.count(),
+        BoolRow::Scanned(list) => list.count(),
     }
 }
 
 /// Writes the truth values from a place on, as many as the part has.
+#[tactic(auto, using(crate::proofs::Carried::scan_long))]
 pub fn write_bools(row: BoolRow<'_>, start: usize, part: &mut [bool])
     requires fits { FitBools row }
     requires within { start + length part.old ≤ length (bools_of row) }
@@ -106,8 +141,13 @@ pub fn write_bools(row: BoolRow<'_>, start: usize, part: &mut [bool])
         BoolRow::Altered(list) => write_altered_bools(list, start, part),
         BoolRow::Applied(list) => write_applied_bools(list, start, part),
         BoolRow::Compared(list) => write_compared(list, start, part),
+        BoolRow::Gathered(list) => write_from(&list, start, part),
+        BoolRow::Permuted(list) => list.write(start, part),
         BoolRow::Truths(list) => write_from(&list, start, part),
         BoolRow::Selected(list) => write_from(&list, start, part),
+        BoolRow::Reduced(list) => write_reduced_bools(list, start, part),
+        BoolRow::CarriedOver(list) => write_from(&list, start, part),
+        BoolRow::Scanned(list) => write_scanned_bools(list, start, part),
     }
 }
 

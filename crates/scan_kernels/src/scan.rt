@@ -8,9 +8,11 @@ ghost use Rattle.item_operations.specs.BooleanScans.{combine_b, unit_b};
 ghost use Rattle.scan_kernels.specs.Metering.{CountsRun};
 
 use crate::choices::{by_name, by_scan_b, by_scan_z};
+use crate::chunks::write_size;
 use crate::execution::Execution;
 use crate::fill::repeat;
 use crate::meter::Meter;
+use crate::scans_by_chunks::{scan_bools_by_chunks, scan_ints_by_chunks};
 use crate::singles::{BLOCK, are_single};
 use crate::source::Source;
 use item_operations::{Combine, ScanB, ScanZ};
@@ -20,7 +22,7 @@ use std::alloc::AllocError;
 /// The exclusive scan of each segment of integers, in one pass into a vector of its final size. The segments have all the
 /// items together.
 pub fn scan_z(
-    _execution: &impl Execution,
+    execution: &impl Execution,
     alloc: impl Source<i64>,
     meter: &mut Meter,
     op: ScanZ,
@@ -33,7 +35,10 @@ pub fn scan_z(
     ensures counted { CountsRun result meter.old meter.new }
 {
     let lengths = segments.lengths();
-    let made = by_scan_z!(op, scan(alloc, op, items, lengths)?);
+    let made = match write_size(execution, &alloc, meter, items.len()) {
+        Some(size) => scan_ints_by_chunks(execution, alloc, op, items, lengths, size)?,
+        None => by_scan_z!(op, scan(alloc, op, items, lengths)?),
+    };
     meter.raise();
     Ok(made)
 }
@@ -41,7 +46,7 @@ pub fn scan_z(
 /// The exclusive scan of each segment of truth values, in one pass into a vector of its final size. The segments have all
 /// the items together.
 pub fn scan_b(
-    _execution: &impl Execution,
+    execution: &impl Execution,
     alloc: impl Source<bool>,
     meter: &mut Meter,
     op: ScanB,
@@ -54,7 +59,10 @@ pub fn scan_b(
     ensures counted { CountsRun result meter.old meter.new }
 {
     let lengths = segments.lengths();
-    let made = by_scan_b!(op, scan(alloc, op, items, lengths)?);
+    let made = match write_size(execution, &alloc, meter, items.len()) {
+        Some(size) => scan_bools_by_chunks(execution, alloc, op, items, lengths, size)?,
+        None => by_scan_b!(op, scan(alloc, op, items, lengths)?),
+    };
     meter.raise();
     Ok(made)
 }

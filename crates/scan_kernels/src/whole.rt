@@ -10,20 +10,25 @@ ghost use Rattle.scan_kernels.specs.Metering.{CountsRun, raised};
 ghost use Rattle.scan_kernels.specs.Segmented.{reduced, scanned};
 
 use crate::choices::{by_name, by_scan_b, by_scan_z};
+use crate::chunks::write_size;
 use crate::execution::Execution;
 use crate::fill::repeat;
 use crate::indices::index_segment;
 use crate::meter::Meter;
 use crate::reduce::reduce_segment;
+use crate::reduction_sizes::items_size;
+use crate::reductions_by_chunks::{reduce_bools_by_chunks, reduce_ints_by_chunks};
 use crate::scan::scan_segment;
+use crate::scans_by_chunks::{scan_bools_by_chunks, scan_ints_by_chunks};
 use crate::source::Source;
 use item_operations::{Combine, ScanB, ScanZ};
 use segment_desc::OutOfMemory;
 use std::alloc::AllocError;
 
 /// The exclusive scan of all the integers, in one pass into a vector of its final size.
+#[tactic(auto, using(crate::proofs::Carried::scan_of_one))]
 pub fn scan_whole_z(
-    _execution: &impl Execution,
+    execution: &impl Execution,
     alloc: impl Source<i64>,
     meter: &mut Meter,
     op: ScanZ,
@@ -33,14 +38,18 @@ pub fn scan_whole_z(
     ensures exact { IfOk result (λ v. IsExact v) }
     ensures counted { CountsRun result meter.old meter.new }
 {
-    let made = by_scan_z!(op, scan_whole(alloc, op, items)?);
+    let made = match write_size(execution, &alloc, meter, items.len()) {
+        Some(size) => scan_ints_by_chunks(execution, alloc, op, items, &[items.len()], size)?,
+        None => by_scan_z!(op, scan_whole(alloc, op, items)?),
+    };
     meter.raise();
     Ok(made)
 }
 
 /// The exclusive scan of all the truth values, in one pass into a vector of its final size.
+#[tactic(auto, using(crate::proofs::Carried::scan_of_one))]
 pub fn scan_whole_b(
-    _execution: &impl Execution,
+    execution: &impl Execution,
     alloc: impl Source<bool>,
     meter: &mut Meter,
     op: ScanB,
@@ -50,7 +59,10 @@ pub fn scan_whole_b(
     ensures exact { IfOk result (λ v. IsExact v) }
     ensures counted { CountsRun result meter.old meter.new }
 {
-    let made = by_scan_b!(op, scan_whole(alloc, op, items)?);
+    let made = match write_size(execution, &alloc, meter, items.len()) {
+        Some(size) => scan_bools_by_chunks(execution, alloc, op, items, &[items.len()], size)?,
+        None => by_scan_b!(op, scan_whole(alloc, op, items)?),
+    };
     meter.raise();
     Ok(made)
 }
@@ -71,7 +83,7 @@ pub(crate) fn scan_whole<O: Combine>(
 
 /// What the operation makes of all the integers. It takes no memory.
 pub fn reduce_whole_z(
-    _execution: &impl Execution,
+    execution: &impl Execution,
     meter: &mut Meter,
     op: ScanZ,
     items: &[i64],
@@ -80,10 +92,13 @@ pub fn reduce_whole_z(
     ensures counted { meter.new ≡ raised meter.old }
 {
     meter.raise();
-    chosen_reduction_z(op, items)
+    match items_size(execution, meter, items.len()) {
+        Some(size) => reduce_ints_by_chunks(execution, op, items, size),
+        None => chosen_reduction_z(op, items),
+    }
 }
 
-fn chosen_reduction_z(op: ScanZ, items: &[i64]) -> i64
+pub(crate) fn chosen_reduction_z(op: ScanZ, items: &[i64]) -> i64
     ensures { result ≡ reduced (combine_z op) (unit_z op) items.now }
 {
     by_scan_z!(op, reduce_segment(op, items))
@@ -91,7 +106,7 @@ fn chosen_reduction_z(op: ScanZ, items: &[i64]) -> i64
 
 /// What the operation makes of all the truth values. It takes no memory.
 pub fn reduce_whole_b(
-    _execution: &impl Execution,
+    execution: &impl Execution,
     meter: &mut Meter,
     op: ScanB,
     items: &[bool],
@@ -100,10 +115,13 @@ pub fn reduce_whole_b(
     ensures counted { meter.new ≡ raised meter.old }
 {
     meter.raise();
-    chosen_reduction_b(op, items)
+    match items_size(execution, meter, items.len()) {
+        Some(size) => reduce_bools_by_chunks(execution, op, items, size),
+        None => chosen_reduction_b(op, items),
+    }
 }
 
-fn chosen_reduction_b(op: ScanB, items: &[bool]) -> bool
+pub(crate) fn chosen_reduction_b(op: ScanB, items: &[bool]) -> bool
     ensures { result ≡ reduced (combine_b op) (unit_b op) items.now }
 {
     by_scan_b!(op, reduce_segment(op, items))

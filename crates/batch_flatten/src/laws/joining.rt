@@ -9,9 +9,9 @@ ghost use Rattle.scan_kernels.specs.Distributed.{distributed};
 ghost use Rattle.scan_kernels.specs.Elementwise.{item_by_item, selected};
 ghost use Rattle.scan_kernels.specs.Indexed.{indexed, segmented_index};
 ghost use Rattle.scan_kernels.specs.Segmented.{reduced, scanned, segmented_reduce, segmented_scan};
-ghost use Rattle.permute_kernels.specs.Gathered.{gathered, segmented_gather};
-ghost use Rattle.permute_kernels.specs.Packed.{numbers_set, packed};
-ghost use Rattle.permute_kernels.specs.Permuted.{permuted, segmented_permute};
+ghost use Rattle.scan_kernels.specs.Gathered.{gathered, segmented_gather};
+ghost use Rattle.scan_kernels.specs.Packed.{numbers_set, packed};
+ghost use Rattle.scan_kernels.specs.Permuted.{permuted, segmented_permute};
 
 /// The map of one operand, by any function of an item.
 pub fn maps_join<P, T, U>()

@@ -1,8 +1,8 @@
 //! Items read from the places that an index holds, segment by segment, on operands that lie in parts.
 
 ghost use Rattle.std.specs.Prelude.{◌≡◌, length, sum};
-ghost use Rattle.permute_kernels.specs.Indices.{LieWithin};
-ghost use Rattle.permute_kernels.specs.Gathered.{segmented_gather};
+ghost use Rattle.scan_kernels.specs.Indices.{LieWithin};
+ghost use Rattle.scan_kernels.specs.Gathered.{segmented_gather};
 
 use crate::back_permute::gather_each;
 use scan_kernels::{JoinedKernel, Kernel, run_parts};

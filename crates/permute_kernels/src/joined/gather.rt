@@ -1,8 +1,8 @@
 //! Items read from the places that an index holds, on operands that lie in parts, of which each is one segment.
 
 ghost use Rattle.std.specs.Prelude.{length, All};
-ghost use Rattle.permute_kernels.specs.Indices.{IsPlaceOf};
-ghost use Rattle.permute_kernels.specs.Gathered.{gathered};
+ghost use Rattle.scan_kernels.specs.Indices.{IsPlaceOf};
+ghost use Rattle.scan_kernels.specs.Gathered.{gathered};
 
 use crate::gather::gathered;
 use scan_kernels::{JoinedKernel, Kernel, run_parts};

@@ -2,7 +2,7 @@
 
 ghost use Rattle.std.specs.Prelude.{◌≡◌, length};
 ghost use Rattle.segment_desc.specs.Cut.{joined};
-ghost use Rattle.permute_kernels.specs.Packed.{packed};
+ghost use Rattle.scan_kernels.specs.Packed.{packed};
 
 use crate::pack::{BLOCK, kept};
 use scan_kernels::{JoinedKernel, Kernel, run_parts};

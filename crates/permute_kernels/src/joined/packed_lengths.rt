@@ -1,7 +1,7 @@
 //! How many flags each segment has set, on operands that lie in parts.
 
 ghost use Rattle.std.specs.Prelude.{◌≡◌, length, sum};
-ghost use Rattle.permute_kernels.specs.Packed.{numbers_set};
+ghost use Rattle.scan_kernels.specs.Packed.{numbers_set};
 
 use crate::pack::count_each;
 use scan_kernels::{JoinedKernel, Kernel, run_parts};

@@ -1,8 +1,8 @@
 //! Items moved to the places that an index holds, segment by segment, on operands that lie in parts.
 
 ghost use Rattle.std.specs.Prelude.{◌≡◌, length, sum};
-ghost use Rattle.permute_kernels.specs.Indices.{PermuteSegments};
-ghost use Rattle.permute_kernels.specs.Permuted.{segmented_permute};
+ghost use Rattle.scan_kernels.specs.Indices.{PermuteSegments};
+ghost use Rattle.scan_kernels.specs.Permuted.{segmented_permute};
 
 use crate::permute::permuted;
 use scan_kernels::{JoinedKernel, Kernel, run_parts};

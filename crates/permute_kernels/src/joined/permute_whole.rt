@@ -1,8 +1,8 @@
 //! Items moved to the places that an index holds, on operands that lie in parts, of which each is one segment.
 
 ghost use Rattle.std.specs.Prelude.{◌≡◌, length};
-ghost use Rattle.permute_kernels.specs.Indices.{HoldsEachPlaceOnce};
-ghost use Rattle.permute_kernels.specs.Permuted.{permuted};
+ghost use Rattle.scan_kernels.specs.Indices.{HoldsEachPlaceOnce};
+ghost use Rattle.scan_kernels.specs.Permuted.{permuted};
 
 use crate::permute_whole::permuted_whole;
 use scan_kernels::{JoinedKernel, Kernel, run_parts};

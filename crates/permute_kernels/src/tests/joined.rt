@@ -1,7 +1,7 @@
 //! Each kernel on operands that lie in parts, some of them empty or with empty segments: one run is counted for all parts.
 
 ghost use Rattle.std.specs.Prelude.{◌≡◌, length, sum, All, OnOk};
-ghost use Rattle.permute_kernels.specs.Indices.{HoldsEachPlaceOnce, IsPlaceOf, LieWithin, PermuteSegments};
+ghost use Rattle.scan_kernels.specs.Indices.{HoldsEachPlaceOnce, IsPlaceOf, LieWithin, PermuteSegments};
 
 use super::cut;
 use crate::{

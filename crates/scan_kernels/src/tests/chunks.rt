@@ -1,9 +1,11 @@
 //! Kernels in chunks of 1, 2, 7 and 4,096 items: in threads into fresh memory, and one chunk after another over a vector
 //! that was kept.
 
+use super::cut;
 use crate::{
-    B1, B2, Cmp, Kept, Meter, Sequential, Z1, Z2, compare2, map1_b, map1_z, map2_b, map2_z, number,
-    select_b, select_z, truth,
+    B1, B2, Cmp, Kept, Meter, ScanB, ScanZ, Sequential, Z1, Z2, compare2, map1_b, map1_z, map2_b,
+    map2_z, number, reduce_b, reduce_whole_b, reduce_whole_z, reduce_z, scan_b, scan_whole_b,
+    scan_whole_z, scan_z, select_b, select_z, truth,
 };
 use std::process::Abort;
 use std::test::Fail;
@@ -20,6 +22,9 @@ const OTHERS: [bool; 10] = [
     true, true, false, false, true, false, false, true, false, false,
 ];
 
+/// The lengths of segments, with empty ones at the beginning, between others, and where chunks of two end.
+const LENGTHS: [i64; 7] = [0, 3, 1, 0, 4, 0, 2];
+
 /// Runs a kernel in chunks of each size, both ways, beside what is wanted.
 macro_rules! by_chunks {
     ($rt:ident, $old:expr, $wanted:expr, $kernel:ident $(, $operand:expr)*) => {
@@ -27,7 +32,7 @@ macro_rules! by_chunks {
             let mut meter = Meter::with_chunk(chunk);
             let fresh = $kernel(&$rt, $rt.alloc(), &mut meter $(, $operand)*);
             assert!($rt; fresh.is_ok_and(|made| made.as_slice() == $wanted.as_slice()), "chunk {chunk}");
-            let kept = Kept::new(vec![in $rt.alloc(); $old; 10]?);
+            let kept = Kept::new(vec![in $rt.alloc(); $old; $wanted.len()]?);
             let over = $kernel(&Sequential, kept, &mut meter $(, $operand)*);
             assert!($rt; over.is_ok_and(|made| made.as_slice() == $wanted.as_slice()), "chunk {chunk}");
             assert_eq!($rt; meter.runs(), 2);
@@ -103,5 +108,90 @@ fn chooses_truth_values(rt: HostRuntime) -> Result<(), Fail> {
         true, false, false, false, true, false, false, false, false, false,
     ];
     by_chunks!(rt, true, wanted, select_b, &FLAGS, &OTHERS, &FLAGS);
+    Ok(())
+}
+
+#[test]
+fn adds_up_segments(rt: HostRuntime) -> Result<(), Fail> {
+    let segments = cut(rt.alloc(), &LENGTHS)?;
+    assert!(rt; segments.total() == LEFT.len());
+    let wanted = [0i64, -1, 7, 0, -1, 0, 2];
+    by_chunks!(rt, 7i64, wanted, reduce_z, ScanZ::Add, &LEFT, &segments);
+    Ok(())
+}
+
+#[test]
+fn tells_in_which_segments_all_are_true(rt: HostRuntime) -> Result<(), Fail> {
+    let segments = cut(rt.alloc(), &LENGTHS)?;
+    assert!(rt; segments.total() == FLAGS.len());
+    let wanted = [true, false, true, true, false, true, false];
+    by_chunks!(rt, true, wanted, reduce_b, ScanB::And, &FLAGS, &segments);
+    Ok(())
+}
+
+#[test]
+fn reduces_all_items(rt: HostRuntime) -> Result<(), Fail> {
+    for chunk in [1, 2, 7, 4_096] {
+        let mut meter = Meter::with_chunk(chunk);
+        assert_eq!(rt; reduce_whole_z(&rt, &mut meter, ScanZ::Add, &LEFT), 7);
+        assert_eq!(rt;
+            reduce_whole_z(&Sequential, &mut meter, ScanZ::Max, &LEFT),
+            8
+        );
+        assert!(rt; reduce_whole_b(&rt, &mut meter, ScanB::Xor, &FLAGS));
+        assert!(rt; !reduce_whole_b(&Sequential, &mut meter, ScanB::And, &FLAGS));
+        assert_eq!(rt; meter.runs(), 4);
+    }
+    Ok(())
+}
+
+#[test]
+fn adds_up_before_each_item(rt: HostRuntime) -> Result<(), Fail> {
+    let wanted = [0i64, 3, -1, -1, 6, 7, -2, 3, 5, 13];
+    by_chunks!(rt, 7i64, wanted, scan_whole_z, ScanZ::Add, &LEFT);
+    Ok(())
+}
+
+#[test]
+fn tells_before_which_items_one_is_true(rt: HostRuntime) -> Result<(), Fail> {
+    let wanted = [false, true, true, true, true, true, true, true, true, true];
+    by_chunks!(rt, true, wanted, scan_whole_b, ScanB::Ior, &FLAGS);
+    Ok(())
+}
+
+#[test]
+fn adds_up_before_each_item_of_a_segment(rt: HostRuntime) -> Result<(), Fail> {
+    let segments = cut(rt.alloc(), &LENGTHS)?;
+    assert!(rt; segments.total() == LEFT.len());
+    let wanted = [0i64, 3, -1, 0, 0, 1, -8, -3, 0, 8];
+    by_chunks!(rt, 7i64, wanted, scan_z, ScanZ::Add, &LEFT, &segments);
+    Ok(())
+}
+
+#[test]
+fn tells_before_which_items_of_a_segment_an_odd_number_is_true(
+    rt: HostRuntime,
+) -> Result<(), Fail> {
+    let segments = cut(rt.alloc(), &LENGTHS)?;
+    assert!(rt; segments.total() == FLAGS.len());
+    let wanted = [
+        false, true, true, false, false, true, true, false, false, false,
+    ];
+    by_chunks!(rt, true, wanted, scan_b, ScanB::Xor, &FLAGS, &segments);
+    Ok(())
+}
+
+#[test]
+fn begins_anew_behind_empty_segments(rt: HostRuntime) -> Result<(), Fail> {
+    let segments = cut(rt.alloc(), &[0, 50_000, 0, 0, 50_000])?;
+    let ones = vec![in rt.alloc(); 1i64; 100_000]?;
+    assert!(rt; segments.total() == ones.len());
+    let mut meter = Meter::with_chunk(4_095);
+    let made = scan_z(&rt, rt.alloc(), &mut meter, ScanZ::Add, &ones, &segments);
+    let made = made.map_err(|_| "refused")?;
+    assert!(rt; made.get(49_999) == Some(&49_999) && made.get(50_000) == Some(&0));
+    let sums = reduce_z(&rt, rt.alloc(), &mut meter, ScanZ::Add, &ones, &segments);
+    let wanted = [0i64, 50_000, 0, 0, 50_000];
+    assert!(rt; sums.is_ok_and(|sums| sums.as_slice() == wanted.as_slice()));
     Ok(())
 }

@@ -1,5 +1,5 @@
 use Rattle.std.proofs.Common.{◌≡◌, length, take, sum, vec_len, vec_capacity}
-use Rattle.permute_kernels.specs.Gathered.{segmented_gather}
+use Rattle.scan_kernels.specs.Gathered.{segmented_gather}
 use Rattle.permute_kernels.proofs.back_permute.gather_each.Given as goal
 
 abbrev pub invariant-loop-j : goal.invariant-loop-j

@@ -1,5 +1,5 @@
 use Rattle.std.proofs.Common.{◌↔◌, All, IsTrue, take}
-use Rattle.permute_kernels.specs.Indices.{IsPlaceOf}
+use Rattle.scan_kernels.specs.Indices.{IsPlaceOf}
 use Rattle.permute_kernels.proofs.conditions.are_places.Given as goal
 
 abbrev pub invariant-loop-held : goal.invariant-loop-held

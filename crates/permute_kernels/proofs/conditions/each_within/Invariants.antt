@@ -1,5 +1,5 @@
 use Rattle.std.proofs.Common.{◌≡◌, take, sum}
-use Rattle.permute_kernels.specs.Indices.{LieWithin}
+use Rattle.scan_kernels.specs.Indices.{LieWithin}
 use Rattle.permute_kernels.proofs.conditions.each_within.Given as goal
 
 abbrev pub invariant-loop-j : goal.invariant-loop-j

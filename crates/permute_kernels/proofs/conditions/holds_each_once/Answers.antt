@@ -1,9 +1,9 @@
 use Rattle.std.proofs.Common.{IsTrue, ◌≡◌, ◌<◌, length, get_or, pos, sym, subst, ◌∙◌, arith, rules, w64, to_z, of_z, length-set}
 use Rattle.std.proofs.lemmas.Int.{ints}
-use Rattle.permute_kernels.specs.Indices.{IsPlaceOf}
-use Rattle.permute_kernels.proofs.Counting.{each_inside}
+use Rattle.scan_kernels.specs.Indices.{IsPlaceOf}
+use Rattle.scan_kernels.proofs.Counting.{each_inside}
 use Rattle.permute_kernels.proofs.Marking.{all_marked, marked_more, marked_twice, number_marked}
-use Rattle.permute_kernels.proofs.Placing.{place_below}
+use Rattle.scan_kernels.proofs.Places.{place_below}
 use Rattle.permute_kernels.proofs.conditions.holds_each_once.Goals as goal
 
 pub returns-then-not-is_place : goal.returns-then-not-is_place

@@ -1,5 +1,5 @@
 use Rattle.std.proofs.Common.{◌≡◌, length}
-use Rattle.permute_kernels.specs.Packed.{number_set}
+use Rattle.scan_kernels.specs.Packed.{number_set}
 use Rattle.permute_kernels.proofs.Marking.{Marks}
 use Rattle.permute_kernels.proofs.conditions.holds_each_once.Given as goal
 

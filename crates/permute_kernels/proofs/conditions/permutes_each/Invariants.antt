@@ -1,5 +1,5 @@
 use Rattle.std.proofs.Common.{◌≡◌, take, sum}
-use Rattle.permute_kernels.specs.Indices.{PermuteSegments}
+use Rattle.scan_kernels.specs.Indices.{PermuteSegments}
 use Rattle.permute_kernels.proofs.conditions.permutes_each.Given as goal
 
 abbrev pub invariant-loop-length : goal.invariant-loop-length

@@ -2,7 +2,7 @@ use Rattle.std.proofs.Common.{◌≡◌, length, get_or, pos, sym, ◌∙◌, ar
 use Rattle.std.proofs.lemmas.Int.{ints}
 use Rattle.segment_desc.proofs.Appending.{appends_more}
 use Rattle.permute_kernels.proofs.Gathering.{gathered_more}
-use Rattle.permute_kernels.proofs.Placing.{place_below}
+use Rattle.scan_kernels.proofs.Places.{place_below}
 use Rattle.permute_kernels.proofs.gather.gather.Goals as goal
 
 pub loop-held-preserved : goal.loop-held-preserved

@@ -1,6 +1,6 @@
 use Rattle.std.proofs.Common.{◌≡◌, ◌+◌, take, vec_len}
 use Rattle.segment_desc.specs.Appended.{Appends}
-use Rattle.permute_kernels.specs.Gathered.{gathered}
+use Rattle.scan_kernels.specs.Gathered.{gathered}
 use Rattle.permute_kernels.proofs.gather.gather.Given as goal
 
 abbrev pub invariant-loop-held : goal.invariant-loop-held

@@ -1,5 +1,5 @@
 use Rattle.std.proofs.Common.{arith}
-use Rattle.permute_kernels.proofs.UndoneMoves.{length-gathered}
+use Rattle.scan_kernels.proofs.UndoneMoves.{length-gathered}
 use Rattle.permute_kernels.proofs.gather.gathered.Goals as goal
 
 pub returns-clause-exact : goal.returns-clause-exact

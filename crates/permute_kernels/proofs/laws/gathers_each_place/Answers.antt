@@ -1,4 +1,4 @@
-use Rattle.permute_kernels.proofs.UndoneMoves.{length-gathered, slice_get-gathered}
+use Rattle.scan_kernels.proofs.UndoneMoves.{length-gathered, slice_get-gathered}
 use Rattle.permute_kernels.proofs.laws.gathers_each_place.Goals as goal
 
 pub returns : goal.returns

@@ -1,4 +1,4 @@
-use Rattle.permute_kernels.proofs.Joining.{length-packed}
+use Rattle.scan_kernels.proofs.PackedLists.{length-packed}
 use Rattle.permute_kernels.proofs.laws.packs_what_is_set.Goals as goal
 
 pub returns : goal.returns

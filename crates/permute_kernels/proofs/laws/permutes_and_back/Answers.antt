@@ -1,4 +1,4 @@
-use Rattle.permute_kernels.proofs.UndoneMoves.{gathered-permuted, permuted-gathered, permuted_alone}
+use Rattle.scan_kernels.proofs.UndoneMoves.{gathered-permuted, permuted-gathered, permuted_alone}
 use Rattle.permute_kernels.proofs.laws.permutes_and_back.Goals as goal
 
 pub returns : goal.returns

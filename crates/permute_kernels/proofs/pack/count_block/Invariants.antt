@@ -1,5 +1,5 @@
 use Rattle.std.proofs.Common.{◌≡◌, take}
-use Rattle.permute_kernels.specs.Packed.{number_set}
+use Rattle.scan_kernels.specs.Packed.{number_set}
 use Rattle.permute_kernels.proofs.pack.count_block.Given as goal
 
 abbrev pub invariant-loop-flag : goal.invariant-loop-flag

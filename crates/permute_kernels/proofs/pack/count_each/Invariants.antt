@@ -1,5 +1,5 @@
 use Rattle.std.proofs.Common.{◌≡◌, length, take, sum, vec_len, vec_capacity}
-use Rattle.permute_kernels.specs.Packed.{numbers_set}
+use Rattle.scan_kernels.specs.Packed.{numbers_set}
 use Rattle.permute_kernels.proofs.pack.count_each.Given as goal
 
 abbrev pub invariant-loop-length : goal.invariant-loop-length

@@ -1,6 +1,6 @@
 use Rattle.std.proofs.Common.{◌++◌, ◌∙◌, ap, length, arith}
 use Rattle.std.proofs.lemmas.List.{take_all}
-use Rattle.permute_kernels.specs.Packed.{number_set}
+use Rattle.scan_kernels.specs.Packed.{number_set}
 use Rattle.permute_kernels.proofs.Packing.{block_more, number_set_more, number_set_within, packed_taken}
 use Rattle.permute_kernels.proofs.pack.kept.Goals as goal
 

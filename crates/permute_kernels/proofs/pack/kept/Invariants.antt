@@ -1,5 +1,5 @@
 use Rattle.std.proofs.Common.{◌≡◌, ◌≤◌, ◌-◌, length, take, vec_len, vec_capacity}
-use Rattle.permute_kernels.specs.Packed.{number_set, packed}
+use Rattle.scan_kernels.specs.Packed.{number_set, packed}
 use Rattle.permute_kernels.proofs.pack.kept.Given as goal
 
 abbrev pub invariant-loop-at : goal.invariant-loop-at

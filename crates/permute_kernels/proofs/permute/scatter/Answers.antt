@@ -1,8 +1,9 @@
 use Rattle.std.proofs.Common.{◌≡◌, ◌<◌, ◌≤ℤ◌, length, get_or, pos, sym, subst, ◌∙◌, arith, rules, w64, to_z, of_z}
 use Rattle.std.proofs.lemmas.Int.{ints}
-use Rattle.permute_kernels.proofs.Counting.{each_inside}
-use Rattle.permute_kernels.proofs.Placing.{place_below, placed_more, placed_all}
-use Rattle.permute_kernels.proofs.Sending.{permuted_is}
+use Rattle.scan_kernels.proofs.Counting.{each_inside}
+use Rattle.scan_kernels.proofs.Places.{place_below}
+use Rattle.permute_kernels.proofs.Placing.{placed_more, placed_all}
+use Rattle.scan_kernels.proofs.Sending.{permuted_is}
 use Rattle.permute_kernels.proofs.permute.scatter.Goals as goal
 
 pub place_of-requires : goal.place_of-requires

@@ -1,7 +1,7 @@
 use Rattle.std.proofs.Common.{◌≡◌, length, take, sum, zip}
 use Rattle.std.specs.List.{AllZip}
 use Rattle.segment_desc.specs.Cut.{cut}
-use Rattle.permute_kernels.specs.Permuted.{IsPermuted}
+use Rattle.scan_kernels.specs.Permuted.{IsPermuted}
 use Rattle.permute_kernels.proofs.permute.scatter_each.Given as goal
 
 abbrev pub invariant-loop-length : goal.invariant-loop-length

@@ -1,6 +1,6 @@
 use Rattle.std.proofs.Common.{rules, ◌≡◌, ◌∙◌, ap, ℕ, List, ℤ, Result, Ok, refl}
 use Rattle.std.specs.List.{list_all}
-use Rattle.permute_kernels.specs.Gathered.{gathered}
+use Rattle.scan_kernels.specs.Gathered.{gathered}
 use Rattle.vector_memory.specs.Contents.{Content, size_of}
 use Rattle.vector_memory.specs.States.{value_at}
 use Rattle.cvl_text.specs.declared.fault.Fault.{Fault}

@@ -1,7 +1,7 @@
 use Rattle.std.proofs.Common.{◌≡◌, All, length, sum, subst, arith, rules}
 use Rattle.std.proofs.lemmas.List.{take_all}
 use Rattle.std.proofs.lemmas.List.Elements.{All-more}
-use Rattle.permute_kernels.specs.Indices.{LieWithin}
+use Rattle.scan_kernels.specs.Indices.{LieWithin}
 use Rattle.permute_kernels.proofs.tests.joined.assert_in_range.Goals as goal
 
 pub loop-part-preserved : goal.loop-part-preserved

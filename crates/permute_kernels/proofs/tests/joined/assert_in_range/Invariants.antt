@@ -1,5 +1,5 @@
 use Rattle.std.proofs.Common.{◌≡◌, All, length, sum, take}
-use Rattle.permute_kernels.specs.Indices.{LieWithin}
+use Rattle.scan_kernels.specs.Indices.{LieWithin}
 use Rattle.permute_kernels.proofs.tests.joined.assert_in_range.Given as goal
 
 abbrev pub invariant-loop-part : goal.invariant-loop-part

@@ -1,5 +1,5 @@
 use Rattle.std.proofs.Common.{◌≡◌, All, length, sum, take}
-use Rattle.permute_kernels.specs.Indices.{PermuteSegments}
+use Rattle.scan_kernels.specs.Indices.{PermuteSegments}
 use Rattle.permute_kernels.proofs.tests.joined.assert_permutes.Given as goal
 
 abbrev pub invariant-loop-part : goal.invariant-loop-part

@@ -1,7 +1,7 @@
 use Rattle.std.proofs.Common.{◌≡◌, All, length, subst, arith, rules}
 use Rattle.std.proofs.lemmas.List.{take_all}
 use Rattle.std.proofs.lemmas.List.Elements.{All-more}
-use Rattle.permute_kernels.specs.Indices.{HoldsEachPlaceOnce}
+use Rattle.scan_kernels.specs.Indices.{HoldsEachPlaceOnce}
 use Rattle.permute_kernels.proofs.tests.joined.assert_permutes_whole.Goals as goal
 
 pub loop-part-preserved : goal.loop-part-preserved

@@ -1,5 +1,5 @@
 use Rattle.std.proofs.Common.{◌≡◌, All, length, take}
-use Rattle.permute_kernels.specs.Indices.{HoldsEachPlaceOnce}
+use Rattle.scan_kernels.specs.Indices.{HoldsEachPlaceOnce}
 use Rattle.permute_kernels.proofs.tests.joined.assert_permutes_whole.Given as goal
 
 abbrev pub invariant-loop-part : goal.invariant-loop-part

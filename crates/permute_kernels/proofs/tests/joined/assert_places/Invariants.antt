@@ -1,5 +1,5 @@
 use Rattle.std.proofs.Common.{All, length, take}
-use Rattle.permute_kernels.specs.Indices.{IsPlaceOf}
+use Rattle.scan_kernels.specs.Indices.{IsPlaceOf}
 use Rattle.permute_kernels.proofs.tests.joined.assert_places.Given as goal
 
 abbrev pub invariant-loop-part : goal.invariant-loop-part

@@ -6,7 +6,7 @@ use Rattle.std.proofs.lemmas.Bool.Decides.{nat_tests}
 use Rattle.std.proofs.lemmas.List.{take-take}
 use Rattle.std.proofs.lemmas.List.Elements.{All-cons, All-nil, All-weaker}
 use Rattle.std.proofs.lemmas.List.Sums.{sum_by-cons, sum_by-take-le, count_by-le-length, count_by_more_yes}
-use Rattle.permute_kernels.specs.Indices.{IsPlaceOf, HoldsEachPlaceOnce, times_held}
+use Rattle.scan_kernels.specs.Indices.{IsPlaceOf, HoldsEachPlaceOnce, times_held}
 
 module _ {X : Type 0} (f : X → Bool) where
   pub all_counted : (xs : List X) → count_by f xs ≡ length xs → All (λ x. f x ≡ true) xs

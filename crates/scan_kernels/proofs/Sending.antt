@@ -12,9 +12,9 @@ use Rattle.std.proofs.lemmas.List.FromFn.{map-range_with_len_more}
 use Rattle.std.proofs.lemmas.List.Sums.{get_or-le-sum_by, sum_by-cons}
 use Rattle.std.proofs.lemmas.Option.{get_or_from_slice_get, same_Some, slice_get_cases, slice_get_within}
 use Rattle.segment_desc.specs.Cut.{cut}
-use Rattle.permute_kernels.specs.Indices.{HoldsEachPlaceOnce, PermuteSegments, times_held}
-use Rattle.permute_kernels.specs.Packed.{number_set, packed}
-use Rattle.permute_kernels.specs.Permuted.{IsPermuted, IsPermutedBySegments, permuted, segmented_permute, sent_to}
+use Rattle.scan_kernels.specs.Indices.{HoldsEachPlaceOnce, PermuteSegments, times_held}
+use Rattle.scan_kernels.specs.Packed.{number_set, packed}
+use Rattle.scan_kernels.specs.Permuted.{IsPermuted, IsPermutedBySegments, permuted, segmented_permute, sent_to}
 
 module _ {X : Type 0} where
   -- nothing is kept where no flag is set

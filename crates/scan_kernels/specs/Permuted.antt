@@ -4,7 +4,7 @@ use Rattle.std.specs.Prelude.{◌≡◌, ℕ, ℤ, pos, List, length, map, Some}
 use Rattle.std.specs.List.{AllZip, flat_map, range_with_len, slice_get, zip}
 use Rattle.std.specs.Ordering.{int_eq}
 use Rattle.segment_desc.specs.Cut.{cut}
-use Rattle.permute_kernels.specs.Packed.{packed}
+use Rattle.scan_kernels.specs.Packed.{packed}
 
 -- ys is as long as xs, and has at each place that the index holds the item of xs that stands where the index holds it
 abbrev pub IsPermuted : {X : Type 0} → List ℤ → List X → List X → Type 0

@@ -1,7 +1,7 @@
 //! The place that an index holds.
 
 ghost use Rattle.std.specs.Prelude.{◌≡◌, ◌↔◌, ◌≤ℤ◌, pos, IsTrue};
-ghost use Rattle.permute_kernels.specs.Indices.{IsPlaceOf};
+ghost use Rattle.scan_kernels.specs.Indices.{IsPlaceOf};
 
 /// Whether a list of so many items has the place.
 pub fn is_place(index: i64, length: usize) -> bool

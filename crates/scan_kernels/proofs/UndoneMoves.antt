@@ -6,16 +6,12 @@ use Rattle.std.proofs.lemmas.Bool.{cases_lt}
 use Rattle.std.proofs.lemmas.List.{length-append}
 use Rattle.std.proofs.lemmas.List.Elements.{All-head, All-tail}
 use Rattle.std.proofs.lemmas.Option.{get_or_from_slice_get, slice_get-get_or, slice_get_cases, slice_get_within}
-use Rattle.permute_kernels.specs.Gathered.{gathered, item_at}
-use Rattle.permute_kernels.specs.Indices.{HoldsEachPlaceOnce, IsPlaceOf}
-use Rattle.permute_kernels.specs.Permuted.{IsPermuted, permuted, sent_to}
-use Rattle.permute_kernels.proofs.Counting.{each_inside}
-use Rattle.permute_kernels.proofs.Placing.{place_below}
-use Rattle.permute_kernels.proofs.Sending.{flat_map-range_push, permuted_is, sent_item, sent_one}
-
-place_is : (n : ℕ) (z : ℤ) → IsPlaceOf n z → z ≡ pos (unsigned_abs z)
-place_is n (pos p) h = refl
-place_is n (negsuc p) h = absurd (grind (arith, h.0))
+use Rattle.scan_kernels.specs.Gathered.{gathered, item_at}
+use Rattle.scan_kernels.specs.Indices.{HoldsEachPlaceOnce, IsPlaceOf}
+use Rattle.scan_kernels.specs.Permuted.{IsPermuted, permuted, sent_to}
+use Rattle.scan_kernels.proofs.Counting.{each_inside}
+use Rattle.scan_kernels.proofs.Places.{place_below, place_is}
+use Rattle.scan_kernels.proofs.Sending.{flat_map-range_push, permuted_is, sent_item, sent_one}
 
 module _ {X : Type 0} where
   slice_get-append_left : (xs ys : List X) (i : ℕ) → i < length xs → slice_get (xs ++ ys) i ≡ slice_get xs i

@@ -1,4 +1,0 @@
-pub mod Gathered
-pub mod Indices
-pub mod Packed
-pub mod Permuted

@@ -1,0 +1,58 @@
+//! Whether a reduction goes by chunks, and of what size. The work are the items, however few results they come to.
+
+ghost use Rattle.std.specs.Prelude.{◌<◌, IfSome};
+
+use crate::chunks::{chunk_size, size_of_few};
+use crate::execution::Execution;
+use crate::meter::{DEFAULT_CHUNK, Meter};
+
+/// From how many items on it repays to start threads that reduce: a first guess, which no measurement has borne out yet.
+const REDUCTIONS_PAY: usize = 262_144;
+
+/// The number of segments in a chunk of a segmented reduction, if it goes by chunks. A size that a caller made smaller than
+/// `DEFAULT_CHUNK` is heeded always, as a number of segments. Else there are no more chunks than processors, and there are
+/// chunks only where they pay: also into fresh memory, of which a reduction takes little.
+#[inline(always)]
+pub(crate) fn segments_size(
+    execution: &impl Execution,
+    meter: &Meter,
+    segments: usize,
+    items: usize,
+) -> Option<usize>
+    ensures { IfSome result (λ size. 0 < size) }
+{
+    let chunk = meter.chunk();
+    if chunk < DEFAULT_CHUNK {
+        return heeded_size(chunk, segments);
+    }
+    if segments < 2 || items < REDUCTIONS_PAY {
+        return None;
+    }
+    let chunks = execution.processors().min(items / chunk);
+    if chunks < 2 {
+        return None;
+    }
+    Some(segments.div_ceil(chunks).max(1))
+}
+
+// The size that a caller chose, where there is more than one chunk.
+fn heeded_size(chunk: usize, segments: usize) -> Option<usize>
+    requires { 0 < chunk }
+    ensures { IfSome result (λ size. 0 < size) }
+{
+    if segments <= chunk {
+        return None;
+    }
+    Some(size_of_few(segments, chunk))
+}
+
+/// The size of the chunks of a reduction of so many items, if it goes by chunks.
+#[inline(always)]
+pub(crate) fn items_size(execution: &impl Execution, meter: &Meter, count: usize) -> Option<usize>
+    ensures { IfSome result (λ size. 0 < size) }
+{
+    if count <= meter.chunk() {
+        return None;
+    }
+    chunk_size(execution, meter.chunk(), count, count >= REDUCTIONS_PAY)
+}
