@@ -7,7 +7,7 @@ use Rattle.call_history.specs.declared.request.Outcome.TheVariants.{Refused}
 use Rattle.cvl_text.specs.declared.call.Call.{Call}
 use Rattle.call_history.specs.Books.{BookState}
 use Rattle.call_history.specs.Fits.{request, IsAskedAt}
-use Rattle.batch_flatten.specs.Batches.{Runs, ServesInOrder}
+use Rattle.batch_flatten.specs.Batches.{RunsOne, ServesInOrder}
 use Rattle.batch_flatten.specs.Serving.{AreAskedBy, Serving}
 use Rattle.batch_flatten.proofs.ServingLemmas.{serving_end, serving_start, serving_turn}
 
@@ -18,7 +18,7 @@ asked-once r = record { callers_are = refl; each = each }
     each zero k call there = record { there = there; first = refl }
     each (suc i) k call there = absurd cc
 
-served : (room : ℕ) (line : List Entry) (r : Request) (old new : BookState) (o : Outcome) → old.room ≡ room → old.history ≡ line → Runs old new r.caller r.call o
+served : (room : ℕ) (line : List Entry) (r : Request) (old new : BookState) (o : Outcome) → old.room ≡ room → old.history ≡ line → RunsOne old new r.caller r.call o
     → ServesInOrder room line (r ∷ []) new.history (o ∷ [])
 served room line r old new o rooms lines ran =
     let start = subst (λ (l : List Entry). Serving room line (r ∷ []) [] l (Refused r.call ∷ [])) (sym lines) (serving_start room line (r ∷ [])) in
@@ -27,6 +27,6 @@ served room line r old new o rooms lines ran =
 
 -- the turn of the one call, on a book as it was
 pub alone-served : (room : ℕ) (line : List Entry) (rs : List Request) (os : List Outcome) (r : Request) (old new : BookState) (o : Outcome) → rs ≡ r ∷ [] → os ≡ o ∷ []
-    → old.room ≡ room → old.history ≡ line → Runs old new r.caller r.call o → ServesInOrder room line rs new.history os
+    → old.room ≡ room → old.history ≡ line → RunsOne old new r.caller r.call o → ServesInOrder room line rs new.history os
 alone-served room line rs os r old new o asked said rooms lines ran =
     subst (λ (z : List Request × (List Outcome)). ServesInOrder room line z.0 new.history z.1) (λ j. (sym asked j, sym said j)) (served room line r old new o rooms lines ran)

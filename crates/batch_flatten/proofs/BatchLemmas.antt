@@ -17,7 +17,7 @@ use Rattle.call_history.specs.declared.request.Outcome.TheVariants.{Answered, Re
 use Rattle.call_history.specs.Fits.{IsAskedAt, asked_by, request, request_by, returned}
 use Rattle.batch_flatten.specs.Waves.{asked, count_of, wave_of, waves_behind, waves_of}
 use Rattle.batch_flatten.specs.Places.{IsOutside, at_places, places_of_first}
-use Rattle.batch_flatten.specs.Batches.{AnswersAllSure, IsAnswered, ServesInOrder, answered, is_answered}
+use Rattle.batch_flatten.specs.Batches.{AnswersAllSure, HasAnswer, ServesInOrder, answered, is_answered}
 use Rattle.batch_flatten.specs.Counts.{kernel_bound, kernels_below, wave_count, word_asked}
 use Rattle.batch_flatten.specs.Joining.{AreNoted}
 use Rattle.batch_flatten.specs.Serving.{AnswersSure, AreApart, AreAskedBy, Serving, WereBack, caller_of}
@@ -107,7 +107,7 @@ call-back (q ∷ rs) zero r c there back =
     ap (λ (z : Request). z.call) (sym same) ∙ is
 call-back (q ∷ rs) (suc i) r c there back = call-back rs i r c there back
 
-each-pair : (rs : List Request) (os : List Outcome) → ((i : ℕ) (r : Request) (o : Outcome) → slice_get rs i ≡ Some r → slice_get os i ≡ Some o → TakesNoMemory (asked r).word → IsAnswered o) → AnswersAllSure rs os
+each-pair : (rs : List Request) (os : List Outcome) → ((i : ℕ) (r : Request) (o : Outcome) → slice_get rs i ≡ Some r → slice_get os i ≡ Some o → TakesNoMemory (asked r).word → HasAnswer o) → AnswersAllSure rs os
 each-pair [] os each = tt
 each-pair (r ∷ rs) [] each = tt
 each-pair (r ∷ rs) (o ∷ os) each = (each 0 r o refl refl, each-pair rs os (λ i q p at has. each (suc i) q p at has))
@@ -120,7 +120,7 @@ batch_sure rs waves n count first os firsts many made last back sure = each-pair
     waits : (i : ℕ) → i < length rs → IsOutside (places_of_first (take n waves) count) i → ⊥
     waits i lt out = each-placed (waves_of (map asked rs)) i (omega (arith, length-waves_of (map asked rs), length-map rs asked)) (subst (λ l. IsOutside l i) (batch_places rs waves n count many made last) out)
 
-    answers : (i : ℕ) (r : Request) (o : Outcome) → slice_get rs i ≡ Some r → slice_get os i ≡ Some o → TakesNoMemory (asked r).word → IsAnswered o
+    answers : (i : ℕ) (r : Request) (o : Outcome) → slice_get rs i ≡ Some r → slice_get os i ≡ Some o → TakesNoMemory (asked r).word → HasAnswer o
     answers i r (Answered place reply) there has none = tt
     answers i r (Refused c) there has none =
         let was : slice_get (map returned rs) i ≡ Some (Refused c) = ap (λ l. slice_get l i) (sym firsts) ∙ back i c has in

@@ -6,7 +6,7 @@ use Rattle.std.specs.List.{AllPairs, cons_option, flat_map, range_with_len}
 use Rattle.std.proofs.lemmas.List.{length-take-le, take_all, take_more, take_more_set}
 use Rattle.std.proofs.lemmas.List.Concat.{flat_map-append}
 use Rattle.std.proofs.lemmas.List.Elements.{filter_map-append}
-use Rattle.batch_flatten.specs.Waves.{count_of, in_order, in_wave}
+use Rattle.batch_flatten.specs.Waves.{count_of, by_waves, in_wave}
 use Rattle.batch_flatten.specs.Places.{IsOutside, at_places, places_of, places_of_first}
 
 module _ {X : Type 0} where
@@ -80,7 +80,7 @@ module _ {X : Type 0} where
       ∙ ap (λ l. l ++ at_places xs (flat_map (places_of ws) vs)) (at_places-of xs ws v long)
       ∙ ap (λ l. in_wave v ws xs ++ l) (at_places-first xs ws vs long)
 
-pub at_places-in_order : {X : Type 0} (xs : List X) (ws : List ℕ) → length ws ≡ length xs → at_places xs (places_of_first ws (count_of ws)) ≡ in_order ws xs
+pub at_places-in_order : {X : Type 0} (xs : List X) (ws : List ℕ) → length ws ≡ length xs → at_places xs (places_of_first ws (count_of ws)) ≡ by_waves ws xs
 at_places-in_order xs ws long = at_places-first xs ws (range_with_len 0 (count_of ws)) long
 
 pub range-push : (a n : ℕ) → range_with_len a (suc n) ≡ range_with_len a n ++ (a + n) ∷ []

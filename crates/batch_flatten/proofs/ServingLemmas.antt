@@ -20,9 +20,9 @@ use Rattle.call_history.specs.Callers.{next_entry}
 use Rattle.call_history.specs.Fits.{Fits, IsAskedAt, request, returned}
 use Rattle.call_history.specs.History.{reply_after}
 use Rattle.call_history.proofs.InPlace.{fits_answered_at, fits_returned}
-use Rattle.batch_flatten.specs.Waves.{asked, count_of, in_order, waves_of}
+use Rattle.batch_flatten.specs.Waves.{asked, count_of, by_waves, waves_of}
 use Rattle.batch_flatten.specs.Places.{IsOutside, at_places, places_of_first}
-use Rattle.batch_flatten.specs.Batches.{IsAnswered, Runs, ServesInOrder, answered, is_answered, request_of}
+use Rattle.batch_flatten.specs.Batches.{HasAnswer, RunsOne, ServesInOrder, answered, is_answered, request_of}
 use Rattle.batch_flatten.specs.Serving.{AnswersIfSure, AnswersSure, AreAskedBy, RunsBack, Serving, WereBack, caller_of}
 use Rattle.batch_flatten.proofs.PlaceLemmas.{at_places-in_order, at_places-push, place_in, rising-outside, set_itself, slice_get-set_else, slice_get-set_here}
 
@@ -50,7 +50,7 @@ answered-append : (ps qs : List (Request × Outcome)) → answered (ps ++ qs) �
 answered-append ps qs = ap (map (λ p. p.0)) (filter-append (λ p. is_answered p.1) ps qs) ∙ map-append (λ p. p.0) (filter (λ p. is_answered p.1) ps) (filter (λ p. is_answered p.1) qs)
 
 fits_run : (room : ℕ) (line : List Entry) (rs : List Request) (os : List Outcome) (old new : BookState) (i k : ℕ) (call : Call) (o : Outcome) → old.room ≡ room → IsAskedAt rs i k call → slice_get os i ≡ Some (Refused call)
-    → Runs old new k call o → Fits room line rs old.history os → Fits room line rs new.history (set os i o)
+    → RunsOne old new k call o → Fits room line rs old.history os → Fits room line rs new.history (set os i o)
 fits_run room line rs os old new i k call (Answered place reply) same at back runs f =
     subst (λ (z : List Entry × ℕ). Fits room line rs z.0 (set os i (Answered z.1 reply))) (λ j. (sym runs.1 j, sym runs.2 j))
     (fits_answered_at room line old.history rs os i k _ call reply at back (runs.3 ∙ ap (λ (r : ℕ). reply_after r old.history call) same) f)
@@ -76,7 +76,7 @@ turn-done rs done place os r was o out asked has =
     ∙ answered-append (at_places (zip rs os) done) ((r, o) ∷ [])
 
 serving_run : (room : ℕ) (line : List Entry) (rs : List Request) (done : List ℕ) (place : ℕ) (old new : BookState) (os : List Outcome) (k : ℕ) (call : Call) (o : Outcome) → old.room ≡ room
-    → Serving room line rs done old.history os → IsOutside done place → IsAskedAt rs place k call → Runs old new k call o → Serving room line rs (done ++ place ∷ []) new.history (set os place o)
+    → Serving room line rs done old.history os → IsOutside done place → IsAskedAt rs place k call → RunsOne old new k call o → Serving room line rs (done ++ place ∷ []) new.history (set os place o)
 serving_run room line rs done place old new os k call (Answered at reply) same s out asks runs =
     let back = waits room line rs done place old.history os k call s out asks in
     let e = next_entry old.history k call in
@@ -146,7 +146,7 @@ serving_turn room line rs callers done place old new os was o same within by out
     let back = waits room line rs done place old.history os r.caller r.call s out asks in
     let is : was ≡ Refused r.call = some_of was (Refused r.call) (sym has ∙ back) in
     let ran_back : RunsBack old new (slice_index callers place) (Refused r.call) o = subst (λ (z : Outcome). RunsBack old new (slice_index callers place) z o) is ran in
-    let own : Runs old new r.caller r.call o = subst (λ (k : ℕ). Runs old new k r.call o) (caller_here rs callers place r by lt found.1) ran_back in
+    let own : RunsOne old new r.caller r.call o = subst (λ (k : ℕ). RunsOne old new k r.call o) (caller_here rs callers place r by lt found.1) ran_back in
     serving_run room line rs done place old new os r.caller r.call o same s out asks own
 
 pub serving_start : (room : ℕ) (line : List Entry) (rs : List Request) → Serving room line rs [] line (map returned rs)
@@ -184,8 +184,8 @@ sure-here : (was o : Outcome) (c : Call) → (o ≡ Refused c → was ≡ Refuse
 sure-here (Answered place reply) o c back sure is none = let other : Answered place reply ≡ Refused c = back is in absurd cc
 sure-here (Refused b) o c back sure is none =
     let same : b ≡ c = inside b c (back is) in
-    let answered : IsAnswered o = sure (subst (λ (z : Call). TakesNoMemory (task_of z).word) (sym same) none) in
-    subst IsAnswered is answered
+    let answered : HasAnswer o = sure (subst (λ (z : Call). TakesNoMemory (task_of z).word) (sym same) none) in
+    subst HasAnswer is answered
   where
     inside : (a d : Call) → Refused a ≡ Refused d → a ≡ d
     inside a d e = cc
@@ -230,5 +230,5 @@ serving_end room line rs ws mid os are long s = record {
   paired = s.paired;
   added = s.added;
   grown = s.grown;
-  ordered = s.ordered ∙ ap answered (at_places-in_order (zip rs os) ws long) ∙ ap (λ (vs : List ℕ). answered (in_order vs (zip rs os))) are;
+  ordered = s.ordered ∙ ap answered (at_places-in_order (zip rs os) ws long) ∙ ap (λ (vs : List ℕ). answered (by_waves vs (zip rs os))) are;
 }

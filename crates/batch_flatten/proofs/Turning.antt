@@ -18,7 +18,7 @@ use Rattle.cvl_calls.specs.Outcomes.{Effect, Stores, Frees, Answers, Operand, He
 use Rattle.cvl_calls.specs.Steps.{refused, applied, followed, stepped, work_on}
 use Rattle.cvl_calls.specs.Work.{work}
 use Rattle.batch_flatten.specs.Waves.{is_among, clashes}
-use Rattle.batch_flatten.specs.Turns.{memory_after, answers_after, done_to, memory_done, answers_done, ReadsNoTarget, IsWave}
+use Rattle.batch_flatten.specs.Turns.{memory_after_tasks, answers_after, done_to, memory_done, answers_done, ReadsNoTarget, IsWave}
 
 -- a name apart from n is apart from each name that is n
 apart : (k n e : Name) → same_name n e ≡ true → same_name n k ≡ false → same_name k e ≡ false
@@ -118,7 +118,7 @@ work-stays m e t f =
     ap (λ (limit : ℕ). work limit t.word (operands_of (stepped m e).memory t.arguments)) (followed-limit m (target e) (work_on m e))
     ∙ ap (work m.limit t.word) (operands-kept m (stepped m e).memory (target e) (stepped-keeps m e) t.arguments f)
 
-pub works_stay : (m : State) (before : List Task) (t : Task) → ReadsNoTarget before t → work_on (memory_after m before) t ≡ work_on m t
+pub works_stay : (m : State) (before : List Task) (t : Task) → ReadsNoTarget before t → work_on (memory_after_tasks m before) t ≡ work_on m t
 works_stay m [] t h = refl
 works_stay m (e ∷ es) t h = works_stay (stepped m e).memory es t h.1 ∙ work-stays m e t h.0
 
@@ -133,7 +133,7 @@ still_see seen m t (x ∷ xs) apart same = (work-stays m t x apart.0 ∙ same.0,
 done-turn : (seen m : State) (t : Task) → work_on m t ≡ work_on seen t → done_to seen m t ≡ stepped m t
 done-turn seen m t same = ap (followed m (target t)) (sym same)
 
-memory-turns : (seen m : State) (ts : List Task) → IsWave ts → SeeTheSame seen m ts → memory_done seen m ts ≡ memory_after m ts
+memory-turns : (seen m : State) (ts : List Task) → IsWave ts → SeeTheSame seen m ts → memory_done seen m ts ≡ memory_after_tasks m ts
 memory-turns seen m [] wave same = refl
 memory-turns seen m (t ∷ ts) wave same =
     ap (λ s. memory_done seen s.memory ts) (done-turn seen m t same.0) ∙ memory-turns seen (stepped m t).memory ts wave.1 (still_see seen m t ts wave.0 same.1)
@@ -149,7 +149,7 @@ sees_itself m [] = tt
 sees_itself m (t ∷ ts) = (refl, sees_itself m ts)
 
 -- the calls of a wave, all of which see the memory at its beginning, leave what they leave one after the other, and reply so
-pub same_memory : (m : State) (ts : List Task) → IsWave ts → memory_done m m ts ≡ memory_after m ts
+pub same_memory : (m : State) (ts : List Task) → IsWave ts → memory_done m m ts ≡ memory_after_tasks m ts
 same_memory m ts wave = memory-turns m m ts wave (sees_itself m ts)
 
 pub same_answers : (m : State) (ts : List Task) → IsWave ts → answers_done m m ts ≡ answers_after m ts

@@ -16,7 +16,7 @@ use Rattle.call_history.specs.Books.{BookState}
 use Rattle.call_history.specs.Callers.{next_entry}
 use Rattle.call_history.specs.Fits.{request, Fits}
 use Rattle.call_history.specs.History.{reply_after}
-use Rattle.batch_flatten.specs.Waves.{asked, in_order, waves_of}
+use Rattle.batch_flatten.specs.Waves.{asked, by_waves, waves_of}
 
 abbrev pub is_answered : Outcome → Bool
 is_answered (Answered place reply) = true
@@ -37,22 +37,22 @@ pub record ServesInOrder (room : ℕ) (old : List Entry) (requests : List Reques
   pub paired : length outcomes ≡ length requests
   pub added : List Entry
   pub grown : new ≡ old ++ added
-  pub ordered : map request_of added ≡ answered (in_order (waves_of (map asked requests)) (zip requests outcomes))
+  pub ordered : map request_of added ≡ answered (by_waves (waves_of (map asked requests)) (zip requests outcomes))
 
 -- a call of a caller ran behind the history, or came back
-abbrev pub Runs : BookState → BookState → ℕ → Call → Outcome → Type 0
-Runs old new k call (Answered place reply) =
+abbrev pub RunsOne : BookState → BookState → ℕ → Call → Outcome → Type 0
+RunsOne old new k call (Answered place reply) =
     (new.room ≡ old.room) × (new.history ≡ old.history ++ next_entry old.history k call ∷ []) × (place ≡ length old.history) × (answer_of reply ≡ reply_after old.room old.history call)
-Runs old new k call (Refused back) = (new.room ≡ old.room) × (new.history ≡ old.history) × (back ≡ call)
+RunsOne old new k call (Refused back) = (new.room ≡ old.room) × (new.history ≡ old.history) × (back ≡ call)
 
 -- the memory after the call's step, or the memory as it was
 abbrev pub StepsOrStays : State → State → Task → Type 0
 StepsOrStays old new t = (new ≡ old) ⊎ (new ≡ (stepped old t).memory)
 
-abbrev pub IsAnswered : Outcome → Type 0
-IsAnswered (Answered place reply) = Unit {0}
-IsAnswered (Refused call) = ⊥
+abbrev pub HasAnswer : Outcome → Type 0
+HasAnswer (Answered place reply) = Unit {0}
+HasAnswer (Refused call) = ⊥
 
 -- each request whose call takes no memory was answered
 abbrev pub AnswersAllSure : List Request → List Outcome → Type 0
-AnswersAllSure requests outcomes = AllByRecursion (λ p. TakesNoMemory (asked p.0).word → IsAnswered p.1) (zip requests outcomes)
+AnswersAllSure requests outcomes = AllByRecursion (λ p. TakesNoMemory (asked p.0).word → HasAnswer p.1) (zip requests outcomes)

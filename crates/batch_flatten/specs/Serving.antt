@@ -14,7 +14,7 @@ use Rattle.call_history.specs.Books.{BookState}
 use Rattle.call_history.specs.Fits.{request, returned, Fits, IsAskedAt}
 use Rattle.batch_flatten.specs.Waves.{clashes}
 use Rattle.batch_flatten.specs.Places.{IsOutside, at_places}
-use Rattle.batch_flatten.specs.Batches.{IsAnswered, Runs, StepsOrStays, answered, request_of}
+use Rattle.batch_flatten.specs.Batches.{HasAnswer, RunsOne, StepsOrStays, answered, request_of}
 
 -- the requests at these places were served, one after the other, and the calls of the others are back
 pub record Serving (room : ℕ) (old : List Entry) (requests : List Request) (done : List ℕ) (mid : List Entry) (outcomes : List Outcome) : Type 0 where
@@ -27,7 +27,7 @@ pub record Serving (room : ℕ) (old : List Entry) (requests : List Request) (do
 
 -- a call that is back runs, and an answer stays
 abbrev pub RunsBack : BookState → BookState → ℕ → Outcome → Outcome → Type 0
-RunsBack old new k (Refused call) outcome = Runs old new k call outcome
+RunsBack old new k (Refused call) outcome = RunsOne old new k call outcome
 RunsBack old new k (Answered place reply) outcome = (new.room ≡ old.room) × (new.history ≡ old.history) × (outcome ≡ Answered place reply)
 
 -- the memory after the turn of an outcome
@@ -61,5 +61,5 @@ pub record AnswersSure (outcomes : List Outcome) (done : List ℕ) : Type 0 wher
 
 -- a call that takes no memory and was back is answered
 abbrev pub AnswersIfSure : Outcome → Outcome → Type 0
-AnswersIfSure (Refused call) new = TakesNoMemory (task_of call).word → IsAnswered new
+AnswersIfSure (Refused call) new = TakesNoMemory (task_of call).word → HasAnswer new
 AnswersIfSure (Answered place reply) new = Unit {0}

@@ -8,9 +8,9 @@ use Rattle.cvl_calls.specs.Steps.{Stepped, followed, stepped, work_on}
 use Rattle.batch_flatten.specs.Waves.{clashes}
 
 -- the memory after these calls, one after the other
-abbrev pub memory_after : State → List Task → State
-memory_after m [] = m
-memory_after m (t ∷ ts) = memory_after (stepped m t).memory ts
+abbrev pub memory_after_tasks : State → List Task → State
+memory_after_tasks m [] = m
+memory_after_tasks m (t ∷ ts) = memory_after_tasks (stepped m t).memory ts
 
 -- their replies
 abbrev pub answers_after : State → List Task → List Answer

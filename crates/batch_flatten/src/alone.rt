@@ -7,7 +7,7 @@ ghost use Rattle.cvl_calls.specs.Runs.{TakesNoMemory, runs_kernel};
 ghost use Rattle.call_history.specs.declared.request.Outcome.{Outcome};
 ghost use Rattle.call_history.specs.Callers.{caller_limit};
 ghost use Rattle.call_history.specs.Fits.{returned};
-ghost use Rattle.batch_flatten.specs.Batches.{AnswersAllSure, IsAnswered, Runs, ServesInOrder};
+ghost use Rattle.batch_flatten.specs.Batches.{AnswersAllSure, HasAnswer, RunsOne, ServesInOrder};
 ghost use Rattle.batch_flatten.specs.Counts.{RisesBy, kernel_bound, kernels_of, wave_count};
 
 use crate::ran::Ran;
@@ -30,7 +30,7 @@ fn run_onto(
     requires space { 0 < book.old.spaces }
     requires room { vec_len outcomes.old < vec_capacity outcomes.old }
     ensures ran { (outcome : Outcome) × (outcomes.new.items ≡ outcomes.old.items ++ outcome ∷ [])
-        × (TakesNoMemory (task_of call).word → IsAnswered outcome) × Runs book.old book.new caller call outcome }
+        × (TakesNoMemory (task_of call).word → HasAnswer outcome) × RunsOne book.old book.new caller call outcome }
     ensures counted { RisesBy (kernels_of (runs_kernel (task_of call).word)) meter.old meter.new }
     ensures spaces { vec_capacity outcomes.new ≡ vec_capacity outcomes.old }
 {

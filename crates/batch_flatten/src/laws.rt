@@ -5,7 +5,7 @@ ghost use Rattle.vector_memory.specs.States.{State};
 ghost use Rattle.cvl_text.specs.Tasks.{Task};
 ghost use Rattle.cvl_calls.specs.Steps.{work_on};
 ghost use Rattle.batch_flatten.specs.Waves.{clashes, waves_of};
-ghost use Rattle.batch_flatten.specs.Turns.{memory_after, answers_after, memory_done, answers_done, ReadsNoTarget, IsWave};
+ghost use Rattle.batch_flatten.specs.Turns.{memory_after_tasks, answers_after, memory_done, answers_done, ReadsNoTarget, IsWave};
 
 mod joining;
 
@@ -21,8 +21,8 @@ pub use joining::{
 /// where all of them see the memory before the first.
 pub fn waves_are_turns()
     ensures work { (m : State) (before : List Task) (t : Task) → ReadsNoTarget before t
-        → work_on (memory_after m before) t ≡ work_on m t }
-    ensures memory { (m : State) (ts : List Task) → IsWave ts → memory_done m m ts ≡ memory_after m ts }
+        → work_on (memory_after_tasks m before) t ≡ work_on m t }
+    ensures memory { (m : State) (ts : List Task) → IsWave ts → memory_done m m ts ≡ memory_after_tasks m ts }
     ensures answers { (m : State) (ts : List Task) → IsWave ts → answers_done m m ts ≡ answers_after m ts }
 {}
 

@@ -9,7 +9,7 @@ ghost use Rattle.cvl_calls.specs.Steps.{work_on};
 ghost use Rattle.call_history.specs.Books.{memory_of};
 ghost use Rattle.call_history.specs.Callers.{caller_limit};
 ghost use Rattle.call_history.specs.Works.{IsWork};
-ghost use Rattle.batch_flatten.specs.Batches.{IsAnswered, Runs, StepsOrStays};
+ghost use Rattle.batch_flatten.specs.Batches.{HasAnswer, RunsOne, StepsOrStays};
 ghost use Rattle.batch_flatten.specs.Counts.{CountsTurn, RisesBy, kernels_of};
 ghost use Rattle.batch_flatten.specs.Joining.{HasWork, IsPrepared, IsReadyWork, slot_work};
 ghost use Rattle.batch_flatten.specs.Serving.{AnswersIfSure, RunsBack, TurnsMemory};
@@ -71,9 +71,9 @@ fn run(
 )
     requires caller { caller < caller_limit }
     requires space { 0 < book.old.spaces }
-    ensures ran { Runs book.old book.new caller call outcome.new }
+    ensures ran { RunsOne book.old book.new caller call outcome.new }
     ensures memory { StepsOrStays (memory_of book.old) (memory_of book.new) (task_of call) }
-    ensures sure { TakesNoMemory (task_of call).word → IsAnswered outcome.new }
+    ensures sure { TakesNoMemory (task_of call).word → HasAnswer outcome.new }
     ensures spaces { book.old.spaces ≤ book.new.spaces + 1 }
     ensures counted { RisesBy (kernels_of (runs_kernel (task_of call).word)) meter.old meter.new }
 {
@@ -87,7 +87,7 @@ fn run(
 fn run_ready(book: &mut Book, caller: u64, call: Call, work: Work, outcome: &mut Outcome)
     requires caller { caller < caller_limit }
     requires work { IsWork work (work_on (memory_of book.old) (task_of call)) }
-    ensures ran { Runs book.old book.new caller call outcome.new }
+    ensures ran { RunsOne book.old book.new caller call outcome.new }
     ensures memory { StepsOrStays (memory_of book.old) (memory_of book.new) (task_of call) }
     ensures spaces { book.old.spaces ≤ book.new.spaces + 1 }
 {

@@ -12,7 +12,7 @@ use Rattle.call_history.proofs.CallerLemmas.{calls_by-append, calls_by-other}
 use Rattle.call_history.proofs.Serving.{answers-from_run}
 use Rattle.request_slots.specs.declared.known.Known.{Known}
 use Rattle.request_slots.specs.Views.{entering_line, IsEntered}
-use Rattle.combiner.specs.Own.{HasRun}
+use Rattle.combiner.specs.Own.{HasEntered}
 
 -- one more entry of a caller is no other caller's
 pub own_entered : (k : ℕ) (call : Call) (line line' : List Entry) → line' ≡ line ++ next_entry line k call ∷ [] → IsEntered k line line'
@@ -24,7 +24,7 @@ own_entered k call line line' is = record {
 
 -- and answers it
 pub own_runs : (call : Call) (c k : Known) (room : ℕ) (line line' : List Entry) (place : ℕ) (reply : Reply) → line' ≡ line ++ next_entry line c.standing.number call ∷ [] → place ≡ length line
-    → answer_of reply ≡ reply_after room line call → room ≡ c.standing.room → Begins c.standing.seen line → calls_by c.standing.number line ≡ c.standing.own → k ≡ entering_line c line' → HasRun call c k place reply
+    → answer_of reply ≡ reply_after room line call → room ≡ c.standing.room → Begins c.standing.seen line → calls_by c.standing.number line ≡ c.standing.own → k ≡ entering_line c line' → HasEntered call c k place reply
 own_runs call c k room line line' place reply is at says room_is saw had now = record {
   line = line';
   now_is = now;

@@ -19,7 +19,7 @@ use Rattle.request_slots.specs.Passes.{is_in, tries, takes_on}
 use Rattle.request_slots.specs.Changes.{noting, settling}
 use Rattle.request_slots.specs.Views.{pass_in, passing, locking, committing, unlocking}
 use Rattle.request_slots.proofs.RequestLists.{distinct-push, request_by-middle}
-use Rattle.combiner.specs.Passes.{Taking, Telling, IsReady, IsBatch, HasServed, asker, past}
+use Rattle.combiner.specs.Passes.{Taking, Telling, IsReadyDesk, IsBatch, HasPassed, asker, past}
 
 is_in-last : (xs : List ℕ) (i : ℕ) → is_in (xs ++ i ∷ []) i ≡ true
 is_in-last [] i = ap (λ b. b || false) (eq-eqb i i refl)
@@ -124,7 +124,7 @@ taking_here before now i requests numbers t = record {
 -- the desk, once all words were tried
 pub desk_ready : (callers : ℕ) (c k : Known) (line : List Entry) (d : Desk) (requests : List Request) (numbers : List ℕ) → Taking c k callers requests numbers → c.standing.number < callers → c.standing.held ≡ true
     → Begins c.standing.seen line → (pass_in c).line ≡ line → d.requests.items ≡ requests → d.book.history ≡ line → d.book.room ≡ c.standing.room → d.outcomes.items ≡ [] → callers ≤ vec_capacity d.requests
-    → callers ≤ vec_capacity d.outcomes → IsReady callers k numbers d
+    → callers ≤ vec_capacity d.outcomes → IsReadyDesk callers k numbers d
 desk_ready callers c k line d requests numbers t inside held saw had taken_are history_is room_is none first second = record {
   taken = subst (λ (rs : List Request). Taking k k callers rs numbers) (sym taken_are) (taking_here c k callers requests numbers t);
   inside = subst (λ (z : Known). z.standing.number < callers) (sym t.now_is) inside;
@@ -139,7 +139,7 @@ desk_ready callers c k line d requests numbers t inside held saw had taken_are h
 
 -- the steps of a pass that has tried all words, one after the other
 pub pass_serves : (callers : ℕ) (c k3 k4 k5 : Known) (book : List Entry) (outcomes : List Outcome) (requests : List Request) (numbers : List ℕ) → Taking c c callers requests numbers → c.standing.held ≡ true
-    → Begins c.standing.seen book → k3 ≡ committing c (pass_in c) book outcomes → Telling callers k3 k4 [] numbers 0 → k5 ≡ unlocking k4 (pass_in k4) → c.standing.number < callers → HasServed c k5 (length requests)
+    → Begins c.standing.seen book → k3 ≡ committing c (pass_in c) book outcomes → Telling callers k3 k4 [] numbers 0 → k5 ≡ unlocking k4 (pass_in k4) → c.standing.number < callers → HasPassed c k5 (length requests)
 pass_serves callers c k3 k4 k5 book outcomes requests numbers t held saw committed told unlocked inside =
     let fourth : k4 ≡ passing (committing c (pass_in c) book outcomes) (pass_in k4) = told.now_is ∙ ap (λ (k : Known). passing k (pass_in k4)) committed in
     let fifth : k5 ≡ unlocking (passing (committing c (pass_in c) book outcomes) (pass_in k4)) (pass_in k4) = unlocked ∙ ap (λ (k : Known). unlocking k (pass_in k4)) fourth in
@@ -153,7 +153,7 @@ pass_serves callers c k3 k4 k5 book outcomes requests numbers t held saw committ
     )
 
 -- a pass, from before the desk was taken
-pub serve_past : (c k1 k2 k5 : Known) (line : List Entry) (count : ℕ) → k1 ≡ locking c line → k2 ≡ passing k1 (pass_in k2) → HasServed k2 k5 count → HasServed c k5 count
+pub serve_past : (c k1 k2 k5 : Known) (line : List Entry) (count : ℕ) → k1 ≡ locking c line → k2 ≡ passing k1 (pass_in k2) → HasPassed k2 k5 count → HasPassed c k5 count
 serve_past c k1 k2 k5 line count locked taken h =
     let second : k2 ≡ passing (locking c line) (pass_in k2) = taken ∙ ap (λ (k : Known). passing k (pass_in k2)) locked in
     (h.0, subst (λ (k : Known). Begins k.standing.seen h.0) second h.1, h.2 ∙ ap (λ (k : Known). past k h.0 count) second)

@@ -22,7 +22,7 @@ use Rattle.combiner.specs.declared.answers.Combined.{Combined}
 use Rattle.combiner.specs.declared.answers.Combined.TheVariants as combine
 use Rattle.combiner.specs.Standing.{Standing, IsIdle, HasLeft, IsOneCall}
 use Rattle.combiner.specs.Cases.{IfAnswered, IfBack, OnBusy, OnServed, IfServed}
-use Rattle.combiner.specs.Own.{GoesOn, IsEnded}
+use Rattle.combiner.specs.Own.{KeepsCall, IsEnded}
 use Rattle.combiner.specs.Says.{leaving, meeting, serving, KeepsNotes, Continues, IsAnswered, IsAnsweredAtLast, IsWhatWasLeft, IsGivenBack, MeetsAnother}
 
 pub not_idle : (left idle : Bool) → idle ≡ not left → idle ≡ false → left ≡ true
@@ -86,12 +86,12 @@ notes_met c h = (λ had. had, (h ∷ [], refl), ([], sym (append-nil c.passes)))
 notes_served : (c d : Standing) (line : List Entry) (calls : ℕ) → d ≡ serving c line calls → KeepsNotes c d
 notes_served c d line calls is = subst (KeepsNotes c) (sym is) (λ _. refl, ([], sym (append-nil c.met)), (calls ∷ [], refl))
 
-pub waiting_begins : (c : Standing) → GoesOn c c
+pub waiting_begins : (c : Standing) → KeepsCall c c
 waiting_begins c = record { number = refl; room = refl; phase = refl; own = refl; later = begins_self c.seen; notes = notes_kept c c refl refl refl }
 
-pub waiting_combines : (c d d' : Standing) (says : Combined) → GoesOn c d → OnBusy says (MeetsAnother d d') → IfServed says (λ calls waves kernels. d' ≡ serving d d'.seen calls) → OnServed says (Begins d.seen d'.seen)
-    → GoesOn c d'
-waiting_combines c d d' combine.Busy w busy served later = subst (GoesOn c) (sym busy.2) record { number = w.number; room = w.room; phase = w.phase; own = w.own; later = w.later; notes = notes_follow c d (meeting d busy.0) w.notes (notes_met d busy.0) }
+pub waiting_combines : (c d d' : Standing) (says : Combined) → KeepsCall c d → OnBusy says (MeetsAnother d d') → IfServed says (λ calls waves kernels. d' ≡ serving d d'.seen calls) → OnServed says (Begins d.seen d'.seen)
+    → KeepsCall c d'
+waiting_combines c d d' combine.Busy w busy served later = subst (KeepsCall c) (sym busy.2) record { number = w.number; room = w.room; phase = w.phase; own = w.own; later = w.later; notes = notes_follow c d (meeting d busy.0) w.notes (notes_met d busy.0) }
 waiting_combines c d d' (combine.Served calls waves kernels) w busy served later = record {
   number = ap (λ (z : Standing). z.number) served ∙ w.number;
   room = ap (λ (z : Standing). z.room) served ∙ w.room;
@@ -101,13 +101,13 @@ waiting_combines c d d' (combine.Served calls waves kernels) w busy served later
   notes = notes_follow c d d' w.notes (notes_served d d' d'.seen calls served);
 }
 
-pub waiting_waits : (c d d' : Standing) → GoesOn c d → d' ≡ d → GoesOn c d'
-waiting_waits c d d' w is = subst (GoesOn c) (sym is) w
+pub waiting_waits : (c d d' : Standing) → KeepsCall c d → d' ≡ d → KeepsCall c d'
+waiting_waits c d d' w is = subst (KeepsCall c) (sym is) w
 
-pub waiting_not_idle : (c d : Standing) → HasLeft c → GoesOn c d → IsIdle d → ⊥
+pub waiting_not_idle : (c d : Standing) → HasLeft c → KeepsCall c d → IsIdle d → ⊥
 waiting_not_idle c d left w e = cc (left.2, w.phase, e)
 
-pub waiting_answered : (c d d' : Standing) (place : ℕ) (reply : Reply) → GoesOn c d → IsAnswered d d' place reply → IsEnded c d' × IsAnsweredAtLast c d' place reply
+pub waiting_answered : (c d d' : Standing) (place : ℕ) (reply : Reply) → KeepsCall c d → IsAnswered d d' place reply → IsEnded c d' × IsAnsweredAtLast c d' place reply
 waiting_answered c d d' place reply w a = (
   record {
     number = ap (λ (z : Standing). z.number) a.after ∙ w.number;
@@ -128,7 +128,7 @@ waiting_answered c d d' place reply w a = (
   },
 )
 
-pub waiting_given_back : (back : Call) (c d d' : Standing) → GoesOn c d → IsGivenBack d d' back → IsEnded c d' × IsWhatWasLeft c back × (d'.own ≡ c.own)
+pub waiting_given_back : (back : Call) (c d d' : Standing) → KeepsCall c d → IsGivenBack d d' back → IsEnded c d' × IsWhatWasLeft c back × (d'.own ≡ c.own)
 waiting_given_back back c d d' w t = (
   record {
     number = ap (λ (z : Standing). z.number) t.2 ∙ w.number;

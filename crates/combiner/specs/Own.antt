@@ -1,5 +1,5 @@
 -- A call that runs while its caller has the book.
--- `HasRun` is the call and its entry, `GoesOn` what a caller knows while others are served, and `IsEnded` what it knows where a call
+-- `HasEntered` is the call and its entry, `KeepsCall` what a caller knows while others are served, and `IsEnded` what it knows where a call
 -- of its own ends.
 use Rattle.std.specs.Prelude.{◌≡◌, ℕ, ◌+◌, List, [], ◌∷◌, length}
 use Rattle.cvl_text.specs.declared.call.Call.{Call}
@@ -15,14 +15,14 @@ use Rattle.combiner.specs.Says.{KeepsNotes}
 
 -- The call stands last in the history, at this place, and has this reply there. The history is the one committed, and answers the
 -- call to its caller.
-pub record HasRun (call : Call) (before now : Known) (place : ℕ) (reply : Reply) : Type 0 where
+pub record HasEntered (call : Call) (before now : Known) (place : ℕ) (reply : Reply) : Type 0 where
   pub line : List Entry
   pub now_is : now ≡ entering_line before line
   pub ends_there : length line ≡ place + 1
   pub answers : Answers before.standing.room before.standing.seen before.standing.own before.standing.number (call ∷ []) line (answer_of reply ∷ [])
 
 -- what a caller left and what was answered to it stay, and it sees no less
-pub record GoesOn (c d : Standing) : Type 0 where
+pub record KeepsCall (c d : Standing) : Type 0 where
   pub number : d.number ≡ c.number
   pub room : d.room ≡ c.room
   pub phase : d.phase ≡ c.phase

@@ -1,6 +1,6 @@
 -- A pass: each word is tried, what was taken is run, and after the commit each caller is told.
--- `Taking` is a pass up to the last try, `IsReady` its desk then, `IsBatch` what may be run in it, `Telling` a pass behind its commit,
--- and `HasServed` what a whole pass comes to.
+-- `Taking` is a pass up to the last try, `IsReadyDesk` its desk then, `IsBatch` what may be run in it, `Telling` a pass behind its commit,
+-- and `HasPassed` what a whole pass comes to.
 use Rattle.std.specs.Prelude.{◌≡◌, ℕ, ◌<◌, ◌≤◌, true, false, List, [], ◌++◌, length, map, take, None, vec_capacity}
 use Rattle.std.specs.List.{AllByRecursion}
 use Rattle.call_history.specs.declared.entry.Entry.{Entry}
@@ -35,7 +35,7 @@ pub record Taking (before now : Known) (i : ℕ) (requests : List Request) (numb
 
 -- A caller that has the desk has tried all words: the requests taken lie there, with space for their outcomes, beside the book of the
 -- line.
-pub record IsReady (callers : ℕ) (c : Known) (numbers : List ℕ) (d : Desk) : Type 0 where
+pub record IsReadyDesk (callers : ℕ) (c : Known) (numbers : List ℕ) (d : Desk) : Type 0 where
   pub taken : Taking c c callers d.requests.items numbers
   pub inside : c.standing.number < callers
   pub held : c.standing.held ≡ true
@@ -73,5 +73,5 @@ pub record Telling (callers : ℕ) (before now : Known) (outcomes : List Outcome
 abbrev pub past : Known → List Entry → ℕ → Known
 past c line count = record c { standing = serving c.standing line count; pass = None }
 
-abbrev pub HasServed : Known → Known → ℕ → Type 0
-HasServed before now count = (line : List Entry) × Begins before.standing.seen line × (now ≡ past before line count)
+abbrev pub HasPassed : Known → Known → ℕ → Type 0
+HasPassed before now count = (line : List Entry) × Begins before.standing.seen line × (now ≡ past before line count)

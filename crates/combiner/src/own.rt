@@ -7,7 +7,7 @@ ghost use Rattle.request_slots.specs.Passes.{fresh_pass};
 ghost use Rattle.request_slots.specs.Views.{pass_in, with_standing, IsSpare};
 ghost use Rattle.combiner.specs.Standing.{IsIdle, IsResting, callers_of, Rests, IsOfCallers};
 ghost use Rattle.combiner.specs.Says.{MeetsAnother, IsAnsweredTo};
-ghost use Rattle.combiner.specs.Own.{HasRun, GoesOn, IsEnded};
+ghost use Rattle.combiner.specs.Own.{HasEntered, KeepsCall, IsEnded};
 
 use crate::pass::{serve, take_all};
 use call_history::Book;
@@ -34,7 +34,7 @@ fn enter(
     requires begins { Begins seat.old.standing.seen book.old.history }
     requires own { calls_by seat.old.standing.number book.old.history ≡ seat.old.standing.own }
     ensures place { seat.new.standing.machine ≡ slots.now }
-    ensures ran { IfOk result (λ answer. HasRun call seat.old seat.new answer.0 answer.1) }
+    ensures ran { IfOk result (λ answer. HasEntered call seat.old seat.new answer.0 answer.1) }
     ensures fresh { seat.new.pass ≡ Some (fresh_pass book.new.history) }
     ensures begins { Begins seat.new.standing.seen book.new.history }
     ensures room { book.new.room ≡ book.old.room }
@@ -64,7 +64,7 @@ fn serve_left(
     requires room { desk.value.book.room ≡ seat.old.standing.room }
     requires spare { IsSpare slots.now.slots desk.value }
     ensures place { seat.new.standing.machine ≡ slots.now }
-    ensures goes_on { GoesOn seat.old.standing seat.new.standing }
+    ensures goes_on { KeepsCall seat.old.standing seat.new.standing }
     ensures no_desk { seat.new.pass ≡ None }
     ensures rests { Rests seat.new.standing }
     ensures no_strangers { IsOfCallers (callers_of seat.new.standing.machine) seat.new.standing.seen }

@@ -6,7 +6,7 @@ ghost use Rattle.request_slots.specs.Views.{pass_in, with_standing};
 ghost use Rattle.combiner.specs.Standing.{callers_of, Rests, IsOfCallers};
 ghost use Rattle.combiner.specs.Says.{MeetsAnother};
 ghost use Rattle.combiner.specs.Serving.{ServesBatch};
-ghost use Rattle.combiner.specs.Passes.{Taking, Telling, IsReady, HasServed};
+ghost use Rattle.combiner.specs.Passes.{Taking, Telling, IsReadyDesk, HasPassed};
 
 use batch_flatten::{Ran, run_batch};
 use call_history::{Outcome, Request};
@@ -77,9 +77,9 @@ pub(crate) fn serve(
 ) -> (usize, Ran)
     requires place { seat.old.standing.machine ≡ slots.now }
     requires callers { (callers + 1 ≡ slots.now.slots) × (callers ≤ 64) }
-    requires ready { IsReady callers seat.old numbers.now desk.value }
+    requires ready { IsReadyDesk callers seat.old numbers.now desk.value }
     ensures place { seat.new.standing.machine ≡ slots.now }
-    ensures served { HasServed seat.old seat.new result.0 }
+    ensures served { HasPassed seat.old seat.new result.0 }
     ensures batch { ServesBatch seat.old.standing.room callers seat.old.standing.seen seat.new.standing.seen
         result.0 result.1.waves result.1.kernels }
     ensures few { result.0 ≤ callers }
@@ -116,7 +116,7 @@ pub(crate) fn pass(
     requires callers { (callers + 1 ≡ slots.now.slots) × (callers ≤ 64) }
     requires no_desk { seat.old.pass ≡ None }
     ensures place { seat.new.standing.machine ≡ slots.now }
-    ensures served { IfSome result (λ p. HasServed seat.old seat.new p.0) }
+    ensures served { IfSome result (λ p. HasPassed seat.old seat.new p.0) }
     ensures batch { IfSome result (λ p. ServesBatch seat.old.standing.room callers
         seat.old.standing.seen seat.new.standing.seen p.0 p.1.waves p.1.kernels) }
     ensures few { IfSome result (λ p. p.0 ≤ callers) }

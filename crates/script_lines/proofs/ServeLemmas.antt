@@ -12,7 +12,7 @@ use Rattle.script_lines.specs.declared.fault.ServeFault.TheVariants as ends
 use Rattle.script_lines.specs.Scripts.{Bad, text_from, first_bad, lines_of, text_of, bad_line_of, bad_text, line_of, is_good, line_text, memory_after_line, memory_after, whole_lines}
 use Rattle.script_lines.specs.Streams.{Awaits, HasBegun}
 use Rattle.script_lines.specs.Walks.{Walk, unwalked, Place, HasWalked, IsBadNext, IsHalt, Fills, halt_at}
-use Rattle.script_lines.specs.Runs.{IsTextOfSome, HasServed, Serves, HasEnded, Steps}
+use Rattle.script_lines.specs.Runs.{IsTextOfSome, HasServed, ServesOn, HasEnded, Steps}
 use Rattle.script_lines.proofs.StreamLemmas.{Awaits-start, Awaits-then, Awaits-done, HasBegun-more, HasBegun-done}
 use Rattle.script_lines.proofs.WalkLemmas.{walked-start, walked-lines, walked-bad}
 
@@ -136,7 +136,7 @@ module _ (m : State) (input : List ℕ) (old now : Option (List ℕ)) (first : L
 
 -- nothing is served yet
 pub served-start : (m : State) (input old : Option (List ℕ)) (walk : Walk) (waiting : List ℕ) → walk ≡ unwalked → waiting ≡ []
-    → IfSome input (λ script. Serves m script input old old walk m waiting)
+    → IfSome input (λ script. ServesOn m script input old old walk m waiting)
 served-start m None old walk waiting is none = tt
 served-start m (Some script) old walk waiting is none = record {
   first = [];

@@ -54,7 +54,7 @@ pub record HasServed (m : State) (old now : Option (List ℕ)) (first : List (Li
   pub text : Awaits old now waiting (text_from m 0 first)
 
 -- some lines were gone through, and all of them were served
-pub record Serves (m : State) (input : List ℕ) (left old now : Option (List ℕ)) (walk : Walk) (memory : State) (waiting : List ℕ) : Type 0 where
+pub record ServesOn (m : State) (input : List ℕ) (left old now : Option (List ℕ)) (walk : Walk) (memory : State) (waiting : List ℕ) : Type 0 where
   pub first : List (List ℕ)
   pub walked : HasWalked input left first walk
   pub served : HasServed m old now first memory waiting
@@ -77,17 +77,17 @@ HasEnded (Err ends.Write) m input left old now waiting = HasBegun old now (text_
 
 -- What one step of it came to: true where more is to be served.
 abbrev pub Steps : Result Bool ServeFault → State → List ℕ → Option (List ℕ) → Option (List ℕ) → Option (List ℕ) → Walk → State → List ℕ → Type 0
-Steps (Ok true) m input left old now walk memory waiting = Serves m input left old now walk memory waiting
+Steps (Ok true) m input left old now walk memory waiting = ServesOn m input left old now walk memory waiting
 Steps (Ok false) m input left old now walk memory waiting = HasEnded (Ok tt) m input left old now waiting
 Steps (Err fault) m input left old now walk memory waiting = HasEnded (Err fault) m input left old now waiting
 
 -- What serving says of the counts of failures: that of writes rises where a write failed, and that of reads where a read failed.
-abbrev pub Counts : {T : Type 0} → Result T ServeFault → ℕ → ℕ → ℕ → ℕ → Type 0
-Counts (Ok done) reads reads' writes writes' = (reads' ≡ reads) × (writes' ≡ writes)
-Counts (Err (ends.Input (halts.BadLine number))) reads reads' writes writes' = writes' ≡ writes
-Counts (Err (ends.Input halts.OutOfMemory)) reads reads' writes writes' = writes' ≡ writes
-Counts (Err (ends.Input halts.Read)) reads reads' writes writes' = (reads < reads') × (writes' ≡ writes)
-Counts (Err ends.Write) reads reads' writes writes' = writes < writes'
+abbrev pub CountsFailures : {T : Type 0} → Result T ServeFault → ℕ → ℕ → ℕ → ℕ → Type 0
+CountsFailures (Ok done) reads reads' writes writes' = (reads' ≡ reads) × (writes' ≡ writes)
+CountsFailures (Err (ends.Input (halts.BadLine number))) reads reads' writes writes' = writes' ≡ writes
+CountsFailures (Err (ends.Input halts.OutOfMemory)) reads reads' writes writes' = writes' ≡ writes
+CountsFailures (Err (ends.Input halts.Read)) reads reads' writes writes' = (reads < reads') × (writes' ≡ writes)
+CountsFailures (Err ends.Write) reads reads' writes writes' = writes < writes'
 
 -- it holds unless a write failed
 abbrev pub UnlessWrite : {T : Type 0} → Result T ServeFault → Type 0 → Type 0

@@ -6,7 +6,7 @@ ghost use Rattle.call_history.specs.Books.{memory_of};
 ghost use Rattle.script_lines.specs.Scripts.{IsOneLine, bad_text};
 ghost use Rattle.script_lines.specs.Streams.{Awaits, HasBegun};
 ghost use Rattle.script_lines.specs.Walks.{GoesOn, IsCountable};
-ghost use Rattle.script_lines.specs.Runs.{Serves, StandsAt, HasEnded, Steps, Counts, UnlessWrite, Runs, IsCounted};
+ghost use Rattle.script_lines.specs.Runs.{ServesOn, StandsAt, HasEnded, Steps, CountsFailures, UnlessWrite, Runs, IsCounted};
 
 use crate::fault::{InputFault, RunFault, ServeFault};
 use crate::gather::{GATHERED, flush};
@@ -64,7 +64,7 @@ impl Run {
         ensures steps { (m : State) (input : List ℕ) (left old : Option (List ℕ))
             → StandsAt m input left old (W.written writer.old) lines.now (memory_of self.old.book) self.old.waiting.items
             → Steps result m input left old (W.written writer.new) lines.now.walk (memory_of self.new.book) self.new.waiting.items }
-        ensures counted { (reads : ℕ) → Counts result reads reads (W.failures writer.old) (W.failures writer.new) }
+        ensures counted { (reads : ℕ) → CountsFailures result reads reads (W.failures writer.old) (W.failures writer.new) }
         ensures writable { UnlessWrite result (W.can_write writer.new) }
     {
         let served = serve_line(
@@ -98,10 +98,10 @@ impl Run {
         requires readable { R.can_read reader.old }
         requires writable { W.can_write writer.old }
         ensures steps { (m : State) (input : List ℕ) (old : Option (List ℕ))
-            → Serves m input (R.rest reader.old) old (W.written writer.old) lines.old.walk (memory_of self.old.book) self.old.waiting.items
+            → ServesOn m input (R.rest reader.old) old (W.written writer.old) lines.old.walk (memory_of self.old.book) self.old.waiting.items
             → Steps result m input (R.rest reader.new) old (W.written writer.new) lines.new.walk (memory_of self.new.book) self.new.waiting.items }
         ensures goes_on { result ≡ Ok true → GoesOn lines.old.walk (R.limit reader.old) lines.new.walk (R.limit reader.new) }
-        ensures counted { Counts result (R.failures reader.old) (R.failures reader.new) (W.failures writer.old) (W.failures writer.new) }
+        ensures counted { CountsFailures result (R.failures reader.old) (R.failures reader.new) (W.failures writer.old) (W.failures writer.new) }
         ensures readable { OnOk result (R.can_read reader.new) }
         ensures writable { UnlessWrite result (W.can_write writer.new) }
         ensures none { OnOk result (self.new.waiting.items ≡ []) }
@@ -128,10 +128,10 @@ impl Run {
         requires readable { R.can_read reader.old }
         requires writable { W.can_write writer.old }
         ensures steps { (m : State) (input : List ℕ) (old : Option (List ℕ))
-            → Serves m input (R.rest reader.old) old (W.written writer.old) lines.old.walk (memory_of self.old.book) self.old.waiting.items
+            → ServesOn m input (R.rest reader.old) old (W.written writer.old) lines.old.walk (memory_of self.old.book) self.old.waiting.items
             → Steps result m input (R.rest reader.new) old (W.written writer.new) lines.new.walk (memory_of self.new.book) self.new.waiting.items }
         ensures goes_on { result ≡ Ok true → GoesOn lines.old.walk (R.limit reader.old) lines.new.walk (R.limit reader.new) }
-        ensures counted { Counts result (R.failures reader.old) (R.failures reader.new) (W.failures writer.old) (W.failures writer.new) }
+        ensures counted { CountsFailures result (R.failures reader.old) (R.failures reader.new) (W.failures writer.old) (W.failures writer.new) }
         ensures readable { OnOk result (R.can_read reader.new) }
         ensures writable { UnlessWrite result (W.can_write writer.new) }
     {
@@ -148,7 +148,7 @@ impl Run {
         ensures runs { (m : State) (input : List ℕ) (left old : Option (List ℕ))
             → HasEnded (Err (ServeFault.Input halt)) m input left old (W.written writer.old) self.old.waiting.items
             → Runs (Err result) m input left old (W.written writer.new) }
-        ensures counted { (reads reads' writes : ℕ) → Counts {T = Unit {0}} (Err (ServeFault.Input halt)) reads reads' writes (W.failures writer.old)
+        ensures counted { (reads reads' writes : ℕ) → CountsFailures {T = Unit {0}} (Err (ServeFault.Input halt)) reads reads' writes (W.failures writer.old)
             → IsCounted (Err result) reads reads' writes (W.failures writer.new) }
     {
         let Ok(()) = flush(&mut self.waiting, writer) else {
@@ -174,7 +174,7 @@ impl Run {
         ensures runs { (m : State) (input : List ℕ) (left old : Option (List ℕ))
             → HasEnded ended m input left old (W.written writer.old) self.old.waiting.items
             → Runs result m input left old (W.written writer.new) }
-        ensures counted { (reads reads' writes : ℕ) → Counts ended reads reads' writes (W.failures writer.old)
+        ensures counted { (reads reads' writes : ℕ) → CountsFailures ended reads reads' writes (W.failures writer.old)
             → IsCounted result reads reads' writes (W.failures writer.new) }
     {
         match ended {

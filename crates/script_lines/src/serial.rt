@@ -3,7 +3,7 @@
 ghost use Rattle.std.specs.Prelude.{[], ◌≡◌, IfSome};
 ghost use Rattle.vector_memory.specs.States.{IsLawfulRoom, empty};
 ghost use Rattle.call_history.specs.Books.{memory_of};
-ghost use Rattle.script_lines.specs.Runs.{HasEnded, Counts, UnlessWrite, Runs, IsCounted};
+ghost use Rattle.script_lines.specs.Runs.{HasEnded, CountsFailures, UnlessWrite, Runs, IsCounted};
 
 use crate::fault::{InputFault, RunFault, ServeFault};
 use crate::lines::Lines;
@@ -25,7 +25,7 @@ fn serve_input<R: Source, W: Sink>(
     requires writable { W.can_write writer.old }
     ensures ended { IfSome (R.rest reader.old) (λ input. HasEnded result (memory_of run.old.book) input
         (R.rest reader.new) (W.written writer.old) (W.written writer.new) run.new.waiting.items) }
-    ensures counted { Counts result (R.failures reader.old) (R.failures reader.new) (W.failures writer.old) (W.failures writer.new) }
+    ensures counted { CountsFailures result (R.failures reader.old) (R.failures reader.new) (W.failures writer.old) (W.failures writer.new) }
     ensures writable { UnlessWrite result (W.can_write writer.new) }
 {
     let Ok(mut lines) = Lines::new(alloc) else {

@@ -19,7 +19,7 @@ use Rattle.script_lines.specs.declared.fault.RunFault.{RunFault}
 use Rattle.script_main.specs.declared.settled.Settled.{Settled}
 use Rattle.script_main.specs.declared.work.Worked.{Worked}
 use Rattle.script_main.specs.Settles.{IsSettled}
-use Rattle.script_main.specs.Workers.{reply_count, HasDone, IsEnd, EachAt, AreEnds, HasMet, HaveMet, IsClosed}
+use Rattle.script_main.specs.Workers.{reply_count, HasDone, IsEnd, EachAt, AreEnds, HasMet, HaveMet, ClosesWith}
 use Rattle.script_main.proofs.WorkLemmas.{length-replies_by}
 use Rattle.script_main.proofs.SettleLemmas.{IsTold, count_first, each_length, settles}
 
@@ -115,7 +115,7 @@ told_each m room k (s ∷ ss) (w ∷ ws) (r ∷ rs) seen line each met later = (
 )
 
 closed_settles : (m : Machine) (room : ℕ) (scripts : List (List Call)) (ends : List (Result Worked RunFault)) (workers : List Worked) (closer : Standing) (replies : Vec (Vec Reply Global) Global)
-    (book : BookState) → ends ≡ map Ok workers → AreEnds m room scripts ends → length ends ≡ callers_of m → HaveMet workers closer replies.items → IsClosed m closer replies.items book
+    (book : BookState) → ends ≡ map Ok workers → AreEnds m room scripts ends → length ends ≡ callers_of m → HaveMet workers closer replies.items → ClosesWith m closer replies.items book
     → IsSettled room scripts replies book
 closed_settles m room scripts ends workers closer replies book is each size met closed =
     let closers = met_closer m room scripts ends workers closer replies.items is each met in
@@ -130,7 +130,7 @@ closed_settles m room scripts ends workers closer replies book is each size met 
     }
 
 pub closes : (result : Result Settled RunFault) (m : Machine) (room : ℕ) (ends : List (Result Worked RunFault)) (workers : List Worked) (closer : Standing) (replies : Vec (Vec Reply Global) Global)
-    → ends ≡ map Ok workers → length ends ≡ callers_of m → HaveMet workers closer replies.items → IfOk result (λ run. run.replies ≡ replies) → IfOk result (λ run. IsClosed m closer replies.items run.book)
+    → ends ≡ map Ok workers → length ends ≡ callers_of m → HaveMet workers closer replies.items → IfOk result (λ run. run.replies ≡ replies) → IfOk result (λ run. ClosesWith m closer replies.items run.book)
     → IfOk result (λ run. (scripts : List (List Call)) → AreEnds m room scripts ends → IsSettled room scripts run.replies run.book)
 closes (Ok run) m room ends workers closer replies is size met same closed = λ scripts each.
     subst (λ (v : Vec (Vec Reply Global) Global). IsSettled room scripts v run.book) (sym same) (closed_settles m room scripts ends workers closer replies run.book is each size met closed)
@@ -138,7 +138,7 @@ closes (Err fault) m room ends workers closer replies is size met same closed = 
 
 -- a machine whose one caller has done nothing
 pub closes_nothing : (result : Result Settled RunFault) (m : Machine) (room : ℕ) (closer : Standing) (replies : Vec (Vec Reply Global) Global) → closer.room ≡ room → replies.items ≡ []
-    → IfOk result (λ run. run.replies ≡ replies) → IfOk result (λ run. IsClosed m closer replies.items run.book) → IfOk result (λ run. IsSettled room [] run.replies run.book)
+    → IfOk result (λ run. run.replies ≡ replies) → IfOk result (λ run. ClosesWith m closer replies.items run.book) → IfOk result (λ run. IsSettled room [] run.replies run.book)
 closes_nothing (Err fault) m room closer replies at empty same closed = tt
 closes_nothing (Ok run) m room closer replies at empty same closed =
     let none : reply_count replies.items ≡ 0 = ap reply_count empty in

@@ -17,7 +17,7 @@ use Rattle.combiner.specs.Standing.{Machine, Left, Standing, IsIdle, HasLeft, Is
 use Rattle.combiner.specs.Says.{leaving, IsAnsweredAtLast}
 use Rattle.script_main.specs.Settles.{replies_by}
 use Rattle.script_main.specs.Gates.{MayPass}
-use Rattle.script_main.specs.Workers.{HasDone, GoesOn}
+use Rattle.script_main.specs.Workers.{HasDone, TakesTurn}
 
 pub replies_by-append : (k : ℕ) (m : State) (xs ys : List Entry) → replies_by k m (xs ++ ys) ≡ replies_by k m xs ++ replies_by k (replay_from m xs) ys
 replies_by-append k m [] ys = refl
@@ -114,7 +114,7 @@ told_nothing m c new = record {
 }
 
 pub goes_on : (c b d : Standing) (call : Call) (place : ℕ) (reply : Reply) → b ≡ leaving c call → d.machine ≡ c.machine → d.number ≡ b.number → d.room ≡ b.room → IsIdle d → Rests d
-    → IsAnsweredAtLast b d place reply → GoesOn c call d reply
+    → IsAnsweredAtLast b d place reply → TakesTurn c call d reply
 goes_on c b d call place reply is machine number room idle rests a calls answers h =
     let both : Left (a.call ∷ []) a.start ≡ Left (call ∷ []) c.seen = sym a.left ∙ ap (λ (z : Standing). z.phase) is in
     let asked : a.call ∷ [] ≡ call ∷ [] = cc both in
@@ -151,7 +151,7 @@ comes_first may_answer m script c new = record { calls = []; script_is = refl; d
 
 -- one more call of a script is done
 pub work_more : (may_answer : ℕ → ℕ → Bool → Type 0) (m : Machine) (room k turn : ℕ) (script rest others : List Call) (call : Call) (c d : Standing) (told : List Reply) (reply : Reply) → rest ≡ call ∷ others
-    → turn ≡ length told → HasCome may_answer m room k script rest c told → GoesOn c call d reply → may_answer c.number turn true → HasCome may_answer m room k script others d (told ++ reply ∷ [])
+    → turn ≡ length told → HasCome may_answer m room k script rest c told → TakesTurn c call d reply → may_answer c.number turn true → HasCome may_answer m room k script others d (told ++ reply ∷ [])
 work_more may_answer m room k turn script rest others call c d told reply next at had goes passed =
     let h = had.done in
     let here : HasDone c.machine c.room c.number had.calls c (map answer_of told) =

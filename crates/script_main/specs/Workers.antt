@@ -33,8 +33,8 @@ pub record HasDone (m : Machine) (room k : ℕ) (calls : List Call) (c : Standin
   pub replies_are : answers ≡ replies_by k (empty room) c.seen
 
 -- whatever the caller had done, it has done this call behind that, with this reply
-abbrev pub GoesOn : Standing → Call → Standing → Reply → Type 0
-GoesOn c call d reply = (calls : List Call) (answers : List Answer) → HasDone c.machine c.room c.number calls c answers
+abbrev pub TakesTurn : Standing → Call → Standing → Reply → Type 0
+TakesTurn c call d reply = (calls : List Call) (answers : List Answer) → HasDone c.machine c.room c.number calls c answers
     → HasDone c.machine c.room c.number (calls ++ call ∷ []) d (answers ++ answer_of reply ∷ [])
 
 -- why worker k does not take a turn: its gate stopped it, or memory was wanted
@@ -133,7 +133,7 @@ reply_count replies = sum_by (λ own. length own.items) replies
 
 -- This book was closed by this caller: its history begins with what the caller has seen, it has nobody else's calls, and it
 -- is as long as there are replies.
-pub record IsClosed (m : Machine) (closer : Standing) (replies : List (Vec Reply Global)) (book : BookState) : Type 0 where
+pub record ClosesWith (m : Machine) (closer : Standing) (replies : List (Vec Reply Global)) (book : BookState) : Type 0 where
   pub room_is : book.room ≡ closer.room
   pub begins : Begins closer.seen book.history
   pub no_strangers : (k : ℕ) → callers_of m ≤ k → calls_by k book.history ≡ []

@@ -4,7 +4,7 @@ ghost use Rattle.std.specs.Prelude.{◌≡◌, ◌≢◌, ◌⊎◌, ℕ, List, 
 ghost use Rattle.cvl_text.specs.declared.call.Call.{Call};
 ghost use Rattle.combiner.specs.Standing.{callers_of, newcomers, IsIdle};
 ghost use Rattle.script_main.specs.Settles.{IsSettled};
-ghost use Rattle.script_main.specs.Workers.{reply_count, IsFirstFault, HaveMet, IsClosed, AreEnds, AllWorked, IsSettleFault};
+ghost use Rattle.script_main.specs.Workers.{reply_count, IsFirstFault, HaveMet, ClosesWith, AreEnds, AllWorked, IsSettleFault};
 
 use crate::settled::Settled;
 use crate::work::Worked;
@@ -37,7 +37,7 @@ fn close(machine: Shared, closer: Caller, replies: Vec<Vec<Reply>>) -> Result<Se
     requires idle { IsIdle closer }
     requires alone { callers_of machine ≡ 1 → reply_count replies.items ≡ length closer.own }
     ensures replies { IfOk result (λ run. run.replies ≡ replies) }
-    ensures closed { IfOk result (λ run. IsClosed machine closer replies.items run.book) }
+    ensures closed { IfOk result (λ run. ClosesWith machine closer replies.items run.book) }
     ensures fault { IfErr result (λ fault. (fault ≡ RunFault.Unfinished) × (1 < callers_of machine)) }
 {
     let Ok(book) = machine.close(closer) else {

@@ -2,7 +2,7 @@
 
 ghost use Rattle.std.specs.Prelude.{true, ◌≡◌, OnOk, IfOk, IfErr, length};
 ghost use Rattle.combiner.specs.Standing.{IsIdle, IsNewAt};
-ghost use Rattle.script_main.specs.Workers.{GoesOn, IsTurnFault, IsEnd, IsGated};
+ghost use Rattle.script_main.specs.Workers.{TakesTurn, IsTurnFault, IsEnd, IsGated};
 
 use crate::gate::Gate;
 use combiner::{Caller, Shared};
@@ -31,7 +31,7 @@ fn take_turn<G: Gate>(
 ) -> Result<Reply, RunFault>
     requires machine { caller.old.machine ≡ shared.now }
     requires idle { IsIdle caller.old }
-    ensures turn { IfOk result (GoesOn caller.old call caller.new) }
+    ensures turn { IfOk result (TakesTurn caller.old call caller.new) }
     ensures passes { OnOk result (G.may_answer gate.now caller.old.number turn true) }
     ensures fault { IfErr result (IsTurnFault (G.may_answer gate.now) caller.old.number turn) }
 {

@@ -1,7 +1,7 @@
 use Rattle.std.proofs.Common.{rules, ◌≡◌, ℕ, length, refl, ap, sym, subst, ◌∙◌}
 use Rattle.call_history.specs.History.{Begins}
 use Rattle.call_history.proofs.Beginnings.{begins_trans}
-use Rattle.combiner.specs.Passes.{IsBatch, HasServed}
+use Rattle.combiner.specs.Passes.{IsBatch, HasPassed}
 use Rattle.combiner.specs.Serving.{ServesBatch}
 use Rattle.combiner.proofs.Batches.{batch_pairs, few_waves, pass_batch}
 use Rattle.combiner.proofs.PassSteps.{taking_batch, pass_serves}
@@ -25,7 +25,7 @@ returns-clause-served g c =
     let now : c.deref-2.result.now.book.history ≡ c.run_batch-ran.new.book.history = search rules in
     let grows : Begins c.args.desk.value.book.history c.deref-2.result.now.book.history =
     subst (λ l. Begins l c.deref-2.result.now.book.history) line (subst (Begins c.deref_mut-open.result.now.book.history) (sym now) c.run_batch-ran.ensures.serves.fits.grows) in
-    subst (HasServed c.args.seat.now c.step_unlock.new.seat) (sym count)
+    subst (HasPassed c.args.seat.now c.step_unlock.new.seat) (sym count)
     (pass_serves c.args.callers c.args.seat.now c.step_commit.new.seat c.answer_all.new.seat c.step_unlock.new.seat
     c.deref-2.result.now.book.history c.deref-2.result.now.outcomes.items c.args.desk.value.requests.items c.args.numbers.now
     ready.taken ready.held (begins_trans c.args.seat.now.standing.seen c.args.desk.value.book.history c.deref-2.result.now.book.history ready.begins grows) c.step_commit.ensures.known c.answer_all.ensures.told c.step_unlock.ensures.known ready.inside)
