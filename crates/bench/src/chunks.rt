@@ -3,7 +3,7 @@
 
 use crate::inputs::Inputs;
 use crate::runs::Failure;
-use permute_kernels::{are_places, gather_z, is_whole_permutation, pack_z, permute_whole_z};
+use permute_kernels::{are_places, gather_z};
 use scan_kernels::{
     Execution, Kept, Meter, ScanZ, Sequential, Z2, map2_z, reduce_whole_z, reduce_z, scan_whole_z,
     scan_z, select_z,
@@ -31,12 +31,10 @@ enum Row {
     Reduce,
     SegmentedReduce,
     Gather,
-    Permute,
-    Pack,
 }
 
 /// In the order of the rows.
-const ROWS: [Row; 9] = [
+const ROWS: [Row; 7] = [
     Row::Add,
     Row::Select,
     Row::Scan,
@@ -44,8 +42,6 @@ const ROWS: [Row; 9] = [
     Row::Reduce,
     Row::SegmentedReduce,
     Row::Gather,
-    Row::Permute,
-    Row::Pack,
 ];
 
 impl Row {
@@ -58,8 +54,6 @@ impl Row {
             Row::Reduce => "reduce",
             Row::SegmentedReduce => "segreduce",
             Row::Gather => "gather",
-            Row::Permute => "permute",
-            Row::Pack => "pack",
         }
     }
 
@@ -83,8 +77,6 @@ impl Row {
             }
             Row::SegmentedReduce => reduce(execution, meter, items, &inputs.mixed, kept),
             Row::Gather => gather(execution, meter, items, &inputs.index, kept),
-            Row::Permute => permute(execution, meter, items, &inputs.index, kept),
-            Row::Pack => pack(execution, meter, items, flags, kept),
         }
     }
 }
@@ -168,33 +160,6 @@ fn gather(
         return Err(Failure::Uneven);
     }
     Ok(gather_z(execution, Kept::new(kept), meter, items, index)?)
-}
-
-// With the test of its index, as a call makes it.
-fn permute(
-    execution: &impl Execution,
-    meter: &mut Meter,
-    items: &[i64],
-    index: &[i64],
-    kept: Vec<i64>,
-) -> Result<Vec<i64>, Failure> {
-    if index.len() != items.len() || !is_whole_permutation(*kept.allocator(), index)? {
-        return Err(Failure::Uneven);
-    }
-    Ok(permute_whole_z(execution, Kept::new(kept), meter, items, index)?)
-}
-
-fn pack(
-    execution: &impl Execution,
-    meter: &mut Meter,
-    items: &[i64],
-    flags: &[bool],
-    kept: Vec<i64>,
-) -> Result<Vec<i64>, Failure> {
-    if flags.len() != items.len() {
-        return Err(Failure::Uneven);
-    }
-    Ok(pack_z(execution, Kept::new(kept), meter, items, flags)?)
 }
 
 /// The time of one run, in nanoseconds. A fresh result is one for which nothing is kept.
