@@ -72,8 +72,11 @@ impl Row {
             Row::Scan => Ok(scan_whole_z(execution, Kept::new(kept), meter, ScanZ::Add, items)?),
             Row::SegmentedScan => scan(execution, meter, items, &inputs.mixed, kept),
             Row::Reduce => {
-                let _sum = reduce_whole_z(execution, meter, ScanZ::Add, items);
-                Ok(kept)
+                // A sum that nobody reads is not made.
+                match reduce_whole_z(execution, meter, ScanZ::Add, items) {
+                    0 => Err(Failure::Uneven),
+                    _ => Ok(kept),
+                }
             }
             Row::SegmentedReduce => reduce(execution, meter, items, &inputs.mixed, kept),
             Row::Gather => gather(execution, meter, items, &inputs.index, kept),

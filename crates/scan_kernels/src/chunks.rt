@@ -56,8 +56,8 @@ pub(crate) fn chunk_size(
     Some(count.div_ceil(processors).max(chunk))
 }
 
-/// From how many items on it repays to start threads that read at scattered places, also into fresh memory: a first guess, to
-/// be measured by `bench chunks`.
+/// From how many items on it repays to start threads that read at scattered places, also into fresh memory: found by
+/// `bench chunks` on four processors, where they were level or faster from here on.
 const GATHERS_PAY: usize = 262_144;
 
 /// The size of the chunks in which a kernel reads so many items at scattered places, if it goes by chunks: where they pay, into
@@ -71,9 +71,9 @@ pub fn gather_size(execution: &impl Execution, meter: &Meter, count: usize) -> O
     chunk_size(execution, meter.chunk(), count, count >= GATHERS_PAY)
 }
 
-/// From how many items on it repays to start threads that each go through a whole index and write what falls into their part,
-/// also into fresh memory: a first guess, to be measured by `bench chunks`.
-const PERMUTES_PAY: usize = 262_144;
+/// From how many items on threads are started that each go through a whole index and write what falls into their part, also into
+/// fresh memory: later than for gathers, since each reads the whole index, and not measured by itself.
+const PERMUTES_PAY: usize = 1_000_000;
 
 /// The greatest number of chunks where each goes through the operands from their beginning, or where what is known of each lies
 /// on the stack.

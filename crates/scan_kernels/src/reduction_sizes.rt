@@ -6,8 +6,9 @@ use crate::chunks::{chunk_size, size_of_few};
 use crate::execution::Execution;
 use crate::meter::{DEFAULT_CHUNK, Meter};
 
-/// From how many items on it repays to start threads that reduce: a first guess, which no measurement has borne out yet.
-const REDUCTIONS_PAY: usize = 262_144;
+/// From how many items on it repays to start threads that reduce: found by `bench chunks` on four processors, where they lost at
+/// half as many.
+const REDUCTIONS_PAY: usize = 1_000_000;
 
 /// The number of segments in a chunk of a segmented reduction, if it goes by chunks. A size that a caller made smaller than
 /// `DEFAULT_CHUNK` is heeded always, as a number of segments. Else there are no more chunks than processors, and there are
