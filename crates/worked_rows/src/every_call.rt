@@ -3,6 +3,7 @@
 use crate::program::ends_with;
 use scan_kernels::Execution;
 use std::alloc::{Alloc, Global};
+use std::process::Abort;
 use std::sync::Wait;
 use std::test::Fail;
 use std::thread::Threads;
@@ -43,7 +44,7 @@ const OPERANDS: &str = "0: a = z 7 -8 9\n\
 const OPERAND_LINES: usize = 17;
 
 /// Whether this call on the operands puts this value into `d`.
-pub fn gives<R: Alloc<A = Global> + Threads + Wait + Execution<Shared = R> + Sync>(
+fn gives<R: Alloc<A = Global> + Threads + Wait + Execution<Shared = R> + Sync>(
     rt: &R,
     call: &str,
     value: &str,
@@ -53,17 +54,19 @@ pub fn gives<R: Alloc<A = Global> + Threads + Wait + Execution<Shared = R> + Syn
     ends_with(rt, &["serial"], &script, OPERAND_LINES + 1, &text)
 }
 
-/// Whether this call on the operands has this reply and leaves `d` as it was.
-pub fn replies<R: Alloc<A = Global> + Threads + Wait + Execution<Shared = R> + Sync>(
+/// Asserts that each call on the operands puts the value beside it into `d`.
+pub fn all_give<R: Alloc<A = Global> + Threads + Wait + Abort + Execution<Shared = R> + Sync>(
     rt: &R,
-    call: &str,
-    reply: &str,
-) -> Result<bool, Fail> {
-    replies_within(rt, "67108864", call, reply)
+    table: &[(&str, &str)],
+) -> Result<(), Fail> {
+    for (call, value) in table {
+        assert!(rt; gives(rt, call, value)?, "{call}");
+    }
+    Ok(())
 }
 
 /// Whether this call on the operands has this reply in a memory of this room and leaves `d` as it was.
-pub fn replies_within<R: Alloc<A = Global> + Threads + Wait + Execution<Shared = R> + Sync>(
+fn replies_within<R: Alloc<A = Global> + Threads + Wait + Execution<Shared = R> + Sync>(
     rt: &R,
     room: &str,
     call: &str,
@@ -72,4 +75,22 @@ pub fn replies_within<R: Alloc<A = Global> + Threads + Wait + Execution<Shared =
     let script = format!(in rt.alloc(); "{OPERANDS}0: {call}\n0: get d\n")?;
     let text = format!(in rt.alloc(); "0 {reply}\n0 z 9\n")?;
     ends_with(rt, &["serial", room], &script, OPERAND_LINES, &text)
+}
+
+/// Asserts that each call on the operands has the reply beside it in a memory of this room and leaves `d` as it was.
+pub fn all_reply_within<
+    R: Alloc<A = Global> + Threads + Wait + Abort + Execution<Shared = R> + Sync,
+>(rt: &R, room: &str, table: &[(&str, &str)]) -> Result<(), Fail> {
+    for (call, reply) in table {
+        assert!(rt; replies_within(rt, room, call, reply)?, "{call}");
+    }
+    Ok(())
+}
+
+/// Asserts that each call on the operands has the reply beside it and leaves `d` as it was.
+pub fn all_reply<R: Alloc<A = Global> + Threads + Wait + Abort + Execution<Shared = R> + Sync>(
+    rt: &R,
+    table: &[(&str, &str)],
+) -> Result<(), Fail> {
+    all_reply_within(rt, "67108864", table)
 }

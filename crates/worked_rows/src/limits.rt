@@ -37,7 +37,7 @@ static LIMITS: [(&str, &str); 7] = [
 
 #[test]
 fn goes_up_to_the_limits(rt: HostRuntime) -> Result<(), Fail> {
-    for (script, text) in LIMITS {
+    for (script, text) in &LIMITS {
         assert!(rt; ends_with(&rt, &["serial"], script, 0, text)?, "{script}");
     }
     Ok(())

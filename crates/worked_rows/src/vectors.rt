@@ -115,7 +115,7 @@ fn shows<R: Alloc<A = Global> + Threads + Wait + Execution<Shared = R> + Sync>(
 
 #[test]
 fn computes_small_vectors(rt: HostRuntime) -> Result<(), Fail> {
-    for (script, text) in VECTORS {
+    for (script, text) in &VECTORS {
         assert!(rt; shows(&rt, script, text)?, "{script}");
     }
     Ok(())

@@ -1,6 +1,6 @@
 //! Comparisons of integers.
 
-use super::{gives, replies};
+use super::{all_give, all_reply};
 use std::test::Fail;
 
 static COMPARED: [(&str, &str); 12] = [
@@ -20,10 +20,7 @@ static COMPARED: [(&str, &str); 12] = [
 
 #[test]
 fn compares_item_by_item(rt: HostRuntime) -> Result<(), Fail> {
-    for (call, value) in COMPARED {
-        assert!(rt; gives(&rt, call, value)?, "{call}");
-    }
-    Ok(())
+    all_give(&rt, &COMPARED)
 }
 
 static REFUSED: [(&str, &str); 30] = [
@@ -61,8 +58,5 @@ static REFUSED: [(&str, &str); 30] = [
 
 #[test]
 fn refuses_operands(rt: HostRuntime) -> Result<(), Fail> {
-    for (call, reply) in REFUSED {
-        assert!(rt; replies(&rt, call, reply)?, "{call}");
-    }
-    Ok(())
+    all_reply(&rt, &REFUSED)
 }

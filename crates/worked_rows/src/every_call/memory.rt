@@ -1,6 +1,6 @@
 //! Setting, reading, moving and freeing values, zeros, lengths and segment lists.
 
-use super::{gives, replies};
+use super::{all_give, all_reply};
 use std::test::Fail;
 
 static SET: [(&str, &str); 14] = [
@@ -22,10 +22,7 @@ static SET: [(&str, &str); 14] = [
 
 #[test]
 fn sets_moves_and_measures(rt: HostRuntime) -> Result<(), Fail> {
-    for (call, value) in SET {
-        assert!(rt; gives(&rt, call, value)?, "{call}");
-    }
-    Ok(())
+    all_give(&rt, &SET)
 }
 
 static READ: [(&str, &str); 22] = [
@@ -55,8 +52,5 @@ static READ: [(&str, &str); 22] = [
 
 #[test]
 fn reads_frees_and_refuses(rt: HostRuntime) -> Result<(), Fail> {
-    for (call, reply) in READ {
-        assert!(rt; replies(&rt, call, reply)?, "{call}");
-    }
-    Ok(())
+    all_reply(&rt, &READ)
 }

@@ -1,6 +1,6 @@
 //! Which fault is told where several would do.
 
-use super::{replies, replies_within};
+use super::{all_reply, all_reply_within};
 use std::test::Fail;
 
 static FIRST: [(&str, &str); 30] = [
@@ -43,10 +43,7 @@ static FIRST: [(&str, &str); 30] = [
 
 #[test]
 fn tells_the_first_fault(rt: HostRuntime) -> Result<(), Fail> {
-    for (call, reply) in FIRST {
-        assert!(rt; replies(&rt, call, reply)?, "{call}");
-    }
-    Ok(())
+    all_reply(&rt, &FIRST)
 }
 
 /// The operands take 37 places.
@@ -72,8 +69,5 @@ static WITHOUT_ROOM: [(&str, &str); 17] = [
 
 #[test]
 fn judges_room_last(rt: HostRuntime) -> Result<(), Fail> {
-    for (call, reply) in WITHOUT_ROOM {
-        assert!(rt; replies_within(&rt, "37", call, reply)?, "{call}");
-    }
-    Ok(())
+    all_reply_within(&rt, "37", &WITHOUT_ROOM)
 }

@@ -1,6 +1,6 @@
 //! Packs, and single items taken out and put in.
 
-use super::{gives, replies};
+use super::{all_give, all_reply};
 use std::test::Fail;
 
 static PACKED: [(&str, &str); 8] = [
@@ -16,10 +16,7 @@ static PACKED: [(&str, &str); 8] = [
 
 #[test]
 fn packs_and_replaces(rt: HostRuntime) -> Result<(), Fail> {
-    for (call, value) in PACKED {
-        assert!(rt; gives(&rt, call, value)?, "{call}");
-    }
-    Ok(())
+    all_give(&rt, &PACKED)
 }
 
 static REFUSED: [(&str, &str); 47] = [
@@ -74,8 +71,5 @@ static REFUSED: [(&str, &str); 47] = [
 
 #[test]
 fn takes_out_and_refuses(rt: HostRuntime) -> Result<(), Fail> {
-    for (call, reply) in REFUSED {
-        assert!(rt; replies(&rt, call, reply)?, "{call}");
-    }
-    Ok(())
+    all_reply(&rt, &REFUSED)
 }

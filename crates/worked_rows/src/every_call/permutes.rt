@@ -1,6 +1,6 @@
 //! Simple permutes and back permutes.
 
-use super::{gives, replies};
+use super::{all_give, all_reply};
 use std::test::Fail;
 
 static MOVED: [(&str, &str); 14] = [
@@ -22,10 +22,7 @@ static MOVED: [(&str, &str); 14] = [
 
 #[test]
 fn moves_items(rt: HostRuntime) -> Result<(), Fail> {
-    for (call, value) in MOVED {
-        assert!(rt; gives(&rt, call, value)?, "{call}");
-    }
-    Ok(())
+    all_give(&rt, &MOVED)
 }
 
 static REFUSED: [(&str, &str); 75] = [
@@ -108,8 +105,5 @@ static REFUSED: [(&str, &str); 75] = [
 
 #[test]
 fn refuses_operands(rt: HostRuntime) -> Result<(), Fail> {
-    for (call, reply) in REFUSED {
-        assert!(rt; replies(&rt, call, reply)?, "{call}");
-    }
-    Ok(())
+    all_reply(&rt, &REFUSED)
 }

@@ -1,6 +1,6 @@
 //! Reductions, whole and of segments.
 
-use super::{gives, replies};
+use super::{all_give, all_reply};
 use std::test::Fail;
 
 static REDUCED: [(&str, &str); 10] = [
@@ -18,10 +18,7 @@ static REDUCED: [(&str, &str); 10] = [
 
 #[test]
 fn reduces_segments(rt: HostRuntime) -> Result<(), Fail> {
-    for (call, value) in REDUCED {
-        assert!(rt; gives(&rt, call, value)?, "{call}");
-    }
-    Ok(())
+    all_give(&rt, &REDUCED)
 }
 
 static REPLIED: [(&str, &str); 30] = [
@@ -112,16 +109,10 @@ static REFUSED: [(&str, &str); 50] = [
 
 #[test]
 fn replies_with_one_item(rt: HostRuntime) -> Result<(), Fail> {
-    for (call, reply) in REPLIED {
-        assert!(rt; replies(&rt, call, reply)?, "{call}");
-    }
-    Ok(())
+    all_reply(&rt, &REPLIED)
 }
 
 #[test]
 fn refuses_operands(rt: HostRuntime) -> Result<(), Fail> {
-    for (call, reply) in REFUSED {
-        assert!(rt; replies(&rt, call, reply)?, "{call}");
-    }
-    Ok(())
+    all_reply(&rt, &REFUSED)
 }

@@ -1,6 +1,6 @@
 //! Scans, whole and in segments.
 
-use super::{gives, replies};
+use super::{all_give, all_reply};
 use std::test::Fail;
 
 static SCANNED: [(&str, &str); 21] = [
@@ -35,10 +35,7 @@ static SCANNED: [(&str, &str); 21] = [
 
 #[test]
 fn scans(rt: HostRuntime) -> Result<(), Fail> {
-    for (call, value) in SCANNED {
-        assert!(rt; gives(&rt, call, value)?, "{call}");
-    }
-    Ok(())
+    all_give(&rt, &SCANNED)
 }
 
 static REFUSED: [(&str, &str); 70] = [
@@ -116,8 +113,5 @@ static REFUSED: [(&str, &str); 70] = [
 
 #[test]
 fn refuses_operands(rt: HostRuntime) -> Result<(), Fail> {
-    for (call, reply) in REFUSED {
-        assert!(rt; replies(&rt, call, reply)?, "{call}");
-    }
-    Ok(())
+    all_reply(&rt, &REFUSED)
 }

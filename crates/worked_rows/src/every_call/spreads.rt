@@ -1,6 +1,6 @@
 //! Distributes and index vectors.
 
-use super::{gives, replies};
+use super::{all_give, all_reply};
 use std::test::Fail;
 
 static SPREAD: [(&str, &str); 14] = [
@@ -25,10 +25,7 @@ static SPREAD: [(&str, &str); 14] = [
 
 #[test]
 fn spreads_items(rt: HostRuntime) -> Result<(), Fail> {
-    for (call, value) in SPREAD {
-        assert!(rt; gives(&rt, call, value)?, "{call}");
-    }
-    Ok(())
+    all_give(&rt, &SPREAD)
 }
 
 static REFUSED: [(&str, &str); 31] = [
@@ -67,8 +64,5 @@ static REFUSED: [(&str, &str); 31] = [
 
 #[test]
 fn refuses_operands(rt: HostRuntime) -> Result<(), Fail> {
-    for (call, reply) in REFUSED {
-        assert!(rt; replies(&rt, call, reply)?, "{call}");
-    }
-    Ok(())
+    all_reply(&rt, &REFUSED)
 }

@@ -57,7 +57,7 @@ fn writes<R: Alloc<A = Global> + Threads + Wait + Execution<Shared = R> + Sync>(
 
 #[test]
 fn writes_over_operands(rt: HostRuntime) -> Result<(), Fail> {
-    for (call, reply, name, value) in WRITTEN {
+    for (call, reply, name, value) in &WRITTEN {
         assert!(rt; writes(&rt, call, reply, name, value)?, "{call}");
     }
     Ok(())

@@ -1,6 +1,6 @@
 //! Elementwise operations on truth values, and choices by them.
 
-use super::{gives, replies};
+use super::{all_give, all_reply};
 use std::test::Fail;
 
 static COMPUTED: [(&str, &str); 10] = [
@@ -18,10 +18,7 @@ static COMPUTED: [(&str, &str); 10] = [
 
 #[test]
 fn computes_item_by_item(rt: HostRuntime) -> Result<(), Fail> {
-    for (call, value) in COMPUTED {
-        assert!(rt; gives(&rt, call, value)?, "{call}");
-    }
-    Ok(())
+    all_give(&rt, &COMPUTED)
 }
 
 static REFUSED: [(&str, &str); 41] = [
@@ -70,8 +67,5 @@ static REFUSED: [(&str, &str); 41] = [
 
 #[test]
 fn refuses_operands(rt: HostRuntime) -> Result<(), Fail> {
-    for (call, reply) in REFUSED {
-        assert!(rt; replies(&rt, call, reply)?, "{call}");
-    }
-    Ok(())
+    all_reply(&rt, &REFUSED)
 }
