@@ -48,7 +48,7 @@ fn bad_lines(rt: HostRuntime) -> Result<(), Fail> {
         b"0: abcdefghijklmnopq = z 1",
         b"cvl 2",
     ];
-    for line in bad {
+    for line in &bad {
         assert!(rt; answers(&rt, &["serial"], line, b"bad line 1\n", 2)?);
     }
     Ok(())
@@ -88,7 +88,7 @@ fn good_lines(rt: HostRuntime) -> Result<(), Fail> {
             b"0 ok\n0 ok\n10 z -2\n",
         ),
     ];
-    for (script, text) in good {
+    for (script, text) in &good {
         assert!(rt; answers(&rt, &["serial"], script, text, 0)?);
     }
     Ok(())

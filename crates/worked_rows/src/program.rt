@@ -121,7 +121,7 @@ fn usage_for_other_arguments(rt: HostRuntime) -> Result<(), Fail> {
         &["serial", "67108865"],
         &["serial", "4", "4"],
     ];
-    for arguments in wrong {
+    for arguments in &wrong {
         assert!(rt; answers(&rt, arguments, script, USAGE, 2)?);
     }
     assert!(rt; answers(&rt, &["serial", "18446744073709551617"], script, USAGE, 2)?);
