@@ -191,7 +191,7 @@ pub(crate) fn write_call(
 /// The call words of the table, and whether each runs a kernel.
 fn words(alloc: Global) -> Result<Vec<(Word, bool)>, Fail> {
     let mut found = Vec::new(alloc);
-    for call in CALLS {
+    for call in &CALLS {
         let mut line = String::new(alloc);
         write_call(&mut line, call, "x", '0')?;
         let call = Call::read(alloc, line.trim_end().as_bytes())?;
