@@ -100,28 +100,30 @@ pub fn ends_with<R: Alloc<A = Global> + Threads + Wait + Execution<Shared = R> +
 
 const USAGE: &[u8] = b"usage: cvl serial|threads [room]\n";
 
+/// Arguments that ask for nothing that the program does.
+static WRONG: [&[&str]; 16] = [
+    &[],
+    &["Threads"],
+    &["serial", "threads"],
+    &["threads", "0"],
+    &["threads", "4", "4"],
+    &["Serial"],
+    &["serial "],
+    &[""],
+    &["serial", "0"],
+    &["serial", ""],
+    &["serial", "04"],
+    &["serial", "+4"],
+    &["serial", "-4"],
+    &["serial", "4 "],
+    &["serial", "67108865"],
+    &["serial", "4", "4"],
+];
+
 #[test]
 fn usage_for_other_arguments(rt: HostRuntime) -> Result<(), Fail> {
     let script = b"0: a = z 1\n";
-    let wrong: [&[&str]; 16] = [
-        &[],
-        &["Threads"],
-        &["serial", "threads"],
-        &["threads", "0"],
-        &["threads", "4", "4"],
-        &["Serial"],
-        &["serial "],
-        &[""],
-        &["serial", "0"],
-        &["serial", ""],
-        &["serial", "04"],
-        &["serial", "+4"],
-        &["serial", "-4"],
-        &["serial", "4 "],
-        &["serial", "67108865"],
-        &["serial", "4", "4"],
-    ];
-    for arguments in &wrong {
+    for arguments in &WRONG {
         assert!(rt; answers(&rt, arguments, script, USAGE, 2)?);
     }
     assert!(rt; answers(&rt, &["serial", "18446744073709551617"], script, USAGE, 2)?);
