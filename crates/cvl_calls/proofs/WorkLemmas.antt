@@ -36,7 +36,8 @@ use Rattle.cvl_calls.specs.Steps.{Grows}
 use Rattle.cvl_calls.specs.Work.{operand, free, len, extract, ask, of_one, of_two, of_three, work}
 use Rattle.cvl_calls.proofs.Fitting.{IsFit, MakesFitting, bind_ok, integers-fit, truths-fit}
 use Rattle.cvl_calls.proofs.FittingElementwise.{map_one-fits, map_two-fits, select-fits}
-use Rattle.cvl_calls.proofs.FittingMoves.{permute-fits, permute_segments-fits, gather-fits, gather_segments-fits, pack-fits, pack_segments-fits, pack_lengths-fits}
+use Rattle.cvl_calls.proofs.FittingMoves.{permute-fits, permute_segments-fits, gather-fits, gather_segments-fits}
+use Rattle.cvl_calls.proofs.FittingPacks.{pack-fits, pack_segments-fits, pack_lengths-fits}
 use Rattle.cvl_calls.proofs.FittingScans.{scan-fits, scan_segments-fits, reduce-fits, reduce_segments-fits}
 use Rattle.cvl_calls.proofs.FittingSpreads.{repeat-fits, distribute-fits, index-fits, index_segments-fits}
 use Rattle.cvl_calls.proofs.FittingValues.{set-fits, get-fits, mov-fits, free-fits, alo-fits, len-fits, make_segs-fits, len_segs-fits, extract-fits, replace-fits}
