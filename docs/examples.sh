@@ -83,7 +83,7 @@ seen_joined() {
     /const CALLS/ { on = 1; next }
     /^];/ { on = 0 }
     on { match($0, /[a-z][a-z][a-z]_[a-z][a-z][a-z]|get/); print substr($0, RSTART, RLENGTH), ++count <= alone ? "alone" : "joined" }
-    ' ../crates/batch_flatten/src/tests/table.rt | sort
+    ' ../crates/batch_tests/src/table.rt | sort
 }
 
 status=0
@@ -97,7 +97,7 @@ for name in calls.cvl calls.out errors.txt; do
 done
 told_joined > "$made/told.txt" && seen_joined > "$made/seen.txt" || exit 1
 if ! cmp -s "$made/told.txt" "$made/seen.txt" || [ ! -s "$made/told.txt" ]; then
-    echo "the call words that ARCHITECTURE.md says are joined are not those of crates/batch_flatten/src/tests/table.rt" >&2
+    echo "the call words that ARCHITECTURE.md says are joined are not those of crates/batch_tests/src/table.rt" >&2
     status=1
 fi
 exit $status

@@ -1,11 +1,11 @@
 #!/bin/sh
 # refused/run.sh: has each growth that a batch asks for refused in turn, and says what came of it.
-# It runs the tests of batch_flatten's file refused.rs that `rt test` or `./test` built, once for each growth. A test fails where a
+# It runs the tests of batch_tests's file refused.rs that `rt test` or `./test` built, once for each growth. A test fails where a
 # refused growth comes to more than one call, but for a history that could not be reserved. The first batch must also be served once
 # with a joined run refused and both calls answered. Status 1: something was not so; 2: the tests are not built; 3: nothing was
 # tried, since there is no cc.
 cd "$(dirname "$0")/.." || exit 1
-tests=$PWD/crates/batch_flatten/out/batch_flatten_tests
+tests=$PWD/crates/batch_tests/out/batch_tests_tests
 [ -x "$tests" ] || { echo "refused: $tests is not built" >&2; exit 2; }
 command -v cc > /dev/null || { echo "refused: not run, since there is no cc"; exit 3; }
 made=$(mktemp -d) || exit 1
@@ -18,7 +18,7 @@ run() {
 }
 
 status=0 all=0
-for test in $("$tests" --list | sed -n 's/^\(tests::refused::[a-z_]*\).*/\1/p'); do
+for test in $("$tests" --list | sed -n 's/^\(refused::[a-z_]*\).*/\1/p'); do
     growth=0 more=1
     : > "$made/ways"
     while [ "$more" -ge "$growth" ]; do

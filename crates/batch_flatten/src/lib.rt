@@ -13,8 +13,6 @@ mod planning;
 mod ran;
 mod roll;
 mod running;
-#[cfg(test)]
-mod tests;
 mod turn;
 mod wave;
 

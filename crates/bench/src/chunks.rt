@@ -208,9 +208,9 @@ pub fn rows<R: Alloc<A = Global> + Clock + Print + Threads + Execution<Shared = 
 ) -> io::Result<()> {
     for size in SIZES {
         let inputs = Inputs::new(rt.alloc(), size)?;
-        for row in ROWS {
+        for row in &ROWS {
             for fresh in [false, true] {
-                let (alone, threads) = least(rt, row, &inputs, fresh)?;
+                let (alone, threads) = least(rt, *row, &inputs, fresh)?;
                 let memory = if fresh { "fresh" } else { "kept" };
                 let name = row.name();
                 println!(rt; "chunks\t{name}/{memory}/{size}\tone thread\t{alone}")?;

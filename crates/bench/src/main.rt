@@ -41,8 +41,8 @@ fn kernels<R: Alloc<A = Global> + Clock + Print + Threads + Execution<Shared = R
 ) -> io::Result<()> {
     for size in SIZES {
         let inputs = Inputs::new(rt.alloc(), size)?;
-        for case in CASES {
-            let nanoseconds = timing::least(rt, case, &inputs)?;
+        for case in &CASES {
+            let nanoseconds = timing::least(rt, *case, &inputs)?;
             let item = nanoseconds / f64::from(size);
             let name = case.name();
             println!(rt; "kernels\t{name}/{size}\tcvl\t{item:.5}")?;

@@ -9,8 +9,6 @@ mod book;
 mod entry;
 pub mod laws;
 mod request;
-#[cfg(test)]
-mod tests;
 mod work;
 
 pub use book::{Book, CALLER_LIMIT};

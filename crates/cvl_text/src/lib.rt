@@ -18,8 +18,6 @@ mod number;
 mod parts;
 mod reading;
 mod reply;
-#[cfg(test)]
-mod tests;
 mod text;
 mod truth;
 mod word;

@@ -14,8 +14,6 @@ pub mod laws;
 mod pack;
 mod permute;
 mod permute_whole;
-#[cfg(test)]
-mod tests;
 
 pub use back_permute::{back_permute_b, back_permute_z};
 pub use conditions::{are_places, in_range, is_permutation, is_whole_permutation};

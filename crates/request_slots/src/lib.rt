@@ -19,8 +19,6 @@ mod plays;
 mod seat;
 mod slots;
 mod steps;
-#[cfg(test)]
-mod tests;
 
 pub use desk::Desk;
 pub use known::{CallerStanding, Known, Pass, Phase};

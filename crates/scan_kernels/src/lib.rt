@@ -37,8 +37,6 @@ mod scans_in_parts;
 mod select;
 mod singles;
 mod source;
-#[cfg(test)]
-mod tests;
 mod whole;
 
 pub use chunks::{bools_by_chunks, gather_size, ints_by_chunks, permute_size};

@@ -5,8 +5,6 @@
 pub mod laws;
 mod memory;
 mod name;
-#[cfg(test)]
-mod tests;
 mod value;
 
 pub use memory::{ITEM_LIMIT, Memory, NAME_LIMIT, ROOM_LIMIT, StoreFault, is_lawful_room};

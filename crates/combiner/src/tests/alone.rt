@@ -3,8 +3,8 @@
 ghost use Rattle.std.specs.Prelude.{◌≡◌, true, length, IfSome};
 ghost use Rattle.combiner.specs.Standing.{IsIdle, HasLeft, callers_of};
 
-use super::asking::{polls, polls_idle, posts, stands_at};
-use super::table::one;
+use crate::tests::asking::{polls, polls_idle, posts, stands_at};
+use crate::tests::table::one;
 use crate::{Caller, Combined, Occupied, Polled, Shared};
 use call_history::Book;
 use cvl_text::{Call, Reply};

@@ -4,7 +4,7 @@ ghost use Rattle.std.specs.Prelude.{◌≡◌, All};
 ghost use Rattle.std.specs.Arc.{arc_value};
 ghost use Rattle.combiner.specs.Standing.{IsIdle};
 
-use super::table::two;
+use crate::tests::table::two;
 use crate::{Caller, Shared};
 use call_history::Book;
 use cvl_text::{Call, Reply};

@@ -2,8 +2,8 @@
 
 ghost use Rattle.std.specs.Prelude.{◌≡◌, All, IfSome};
 
-use super::asking::{calls_all, polls, posts, serves};
-use super::table::{all, two_with};
+use crate::tests::asking::{calls_all, polls, posts, serves};
+use crate::tests::table::{all, two_with};
 use crate::{Caller, Shared};
 use cvl_text::Call;
 use std::alloc::Global;

@@ -1,8 +1,8 @@
 //! Two callers, in one thread.
 
-use super::asking::{calls, polls, polls_idle, polls_waiting, posts, serves, stands_at};
-use super::table::two;
 use crate::Combined;
+use crate::tests::asking::{calls, polls, polls_idle, polls_waiting, posts, serves, stands_at};
+use crate::tests::table::two;
 use std::process::Abort;
 use std::test::Fail;
 

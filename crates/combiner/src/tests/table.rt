@@ -38,6 +38,19 @@ pub(crate) fn two_with(alloc: Global, room: u64) -> Option<(Shared, Caller, Call
     Some((shared, first, second))
 }
 
+/// A machine with three callers.
+pub(crate) fn three(alloc: Global) -> Option<(Shared, Caller, Caller, Caller)>
+    ensures first { IfSome result (λ m. m.1.machine ≡ m.0) }
+    ensures second { IfSome result (λ m. m.2.machine ≡ m.0) }
+    ensures third { IfSome result (λ m. m.3.machine ≡ m.0) }
+{
+    let (shared, mut callers) = Shared::new(alloc, 3, 100).ok()?;
+    let third = callers.pop()?;
+    let second = callers.pop()?;
+    let first = callers.pop()?;
+    Some((shared, first, second, third))
+}
+
 /// A machine with the greatest number of callers, and the last of them by itself.
 pub(crate) fn all(alloc: Global) -> Option<(Shared, Vec<Caller>, Caller)>
     ensures others { IfSome result (λ m. All (λ c. c.machine ≡ m.0) m.1.items) }
@@ -48,18 +61,21 @@ pub(crate) fn all(alloc: Global) -> Option<(Shared, Vec<Caller>, Caller)>
     Some((shared, callers, last))
 }
 
+/// How many callers and how large a room, and why there is no such machine.
+const MADE: [(u64, u64, Option<MakeFault>); 7] = [
+    (0, 1, Some(MakeFault::BadCallers)),
+    (65, 1, Some(MakeFault::BadCallers)),
+    (65, 0, Some(MakeFault::BadCallers)),
+    (1, 0, Some(MakeFault::BadRoom)),
+    (1, 67_108_865, Some(MakeFault::BadRoom)),
+    (1, 67_108_864, None),
+    (64, 1, None),
+];
+
 #[test]
 fn counts_and_rooms(rt: HostRuntime) {
-    for (callers, room, fault) in [
-        (0, 1, Some(MakeFault::BadCallers)),
-        (65, 1, Some(MakeFault::BadCallers)),
-        (65, 0, Some(MakeFault::BadCallers)),
-        (1, 0, Some(MakeFault::BadRoom)),
-        (1, 67_108_865, Some(MakeFault::BadRoom)),
-        (1, 67_108_864, None),
-        (64, 1, None),
-    ] {
-        assert!(rt; Shared::new(rt.alloc(), callers, room).err() == fault);
+    for (callers, room, fault) in &MADE {
+        assert!(rt; Shared::new(rt.alloc(), *callers, *room).err() == *fault);
     }
 }
 

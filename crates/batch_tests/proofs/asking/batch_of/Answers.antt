@@ -1,0 +1,16 @@
+use Rattle.std.proofs.Common.{rules, ◌≡◌, List, length, map, subst, sym}
+use Rattle.std.specs.List.{range_with_len}
+use Rattle.call_history.specs.declared.request.Request.{Request}
+use Rattle.batch_flatten.specs.Serving.{caller_of}
+use Rattle.batch_flatten.proofs.CallerLemmas.{counted-push}
+use Rattle.batch_tests.proofs.asking.batch_of.Goals as goal
+
+pub loop-line-preserved : goal.loop-line-preserved
+loop-line-preserved c =
+    let rs = c.loop-line.requests.items in
+    let next : c.len-caller.result ≡ length rs = search rules in
+    record {
+      few = search rules;
+      callers = subst (λ (l : List Request). map caller_of l ≡ range_with_len 0 (length l)) (sym {A = List Request} c.in_ok-push.ensures.items)
+          (counted-push rs (record { caller = c.len-caller.result; call = c.in_ok-call.call }) next c.loop-line.invariant.callers);
+    }

@@ -1,0 +1,12 @@
+//! Tests of memories, texts, calls on one thread and books, with ample memory. They stand above the libraries, so that those
+//! are proved once.
+#![tactic(auto)]
+
+#[cfg(test)]
+mod books;
+#[cfg(test)]
+mod calls;
+#[cfg(test)]
+mod memories;
+#[cfg(test)]
+mod texts;

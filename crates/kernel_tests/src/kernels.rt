@@ -1,0 +1,9 @@
+//! Each public kernel on small vectors, with the count of runs.
+
+mod chunks;
+mod elementwise;
+mod joined;
+mod kept;
+mod policies;
+mod scans;
+mod spreads;

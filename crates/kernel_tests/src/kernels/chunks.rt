@@ -1,0 +1,197 @@
+//! Kernels in chunks of 1, 2, 7 and 4,096 items: in threads into fresh memory, and one chunk after another over a vector
+//! that was kept.
+
+use crate::cut::cut;
+use scan_kernels::{
+    B1, B2, Cmp, Kept, Meter, ScanB, ScanZ, Sequential, Z1, Z2, compare2, map1_b, map1_z, map2_b,
+    map2_z, number, reduce_b, reduce_whole_b, reduce_whole_z, reduce_z, scan_b, scan_whole_b,
+    scan_whole_z, scan_z, select_b, select_z, truth,
+};
+use std::process::Abort;
+use std::test::Fail;
+
+const LEFT: [i64; 10] = [3, -4, 0, 7, 1, -9, 5, 2, 8, -6];
+
+const RIGHT: [i64; 10] = [1, 2, 3, -4, 5, 6, -7, 8, 9, 10];
+
+const FLAGS: [bool; 10] = [
+    true, false, false, true, true, false, true, false, false, true,
+];
+
+const OTHERS: [bool; 10] = [
+    true, true, false, false, true, false, false, true, false, false,
+];
+
+/// The lengths of segments, with empty ones at the beginning, between others, and where chunks of two end.
+const LENGTHS: [i64; 7] = [0, 3, 1, 0, 4, 0, 2];
+
+/// Runs a kernel in chunks of each size, both ways, beside what is wanted.
+macro_rules! by_chunks {
+    ($rt:ident, $old:expr, $wanted:expr, $kernel:ident $(, $operand:expr)*) => {
+        for chunk in [1, 2, 7, 4_096] {
+            let mut meter = Meter::with_chunk(chunk);
+            let fresh = $kernel(&$rt, $rt.alloc(), &mut meter $(, $operand)*);
+            assert!($rt; fresh.is_ok_and(|made| made.as_slice() == $wanted.as_slice()), "chunk {chunk}");
+            let kept = Kept::new(vec![in $rt.alloc(); $old; $wanted.len()]?);
+            let over = $kernel(&Sequential, kept, &mut meter $(, $operand)*);
+            assert!($rt; over.is_ok_and(|made| made.as_slice() == $wanted.as_slice()), "chunk {chunk}");
+            assert_eq!($rt; meter.runs(), 2);
+        }
+    };
+}
+
+#[test]
+fn subtracts(rt: HostRuntime) -> Result<(), Fail> {
+    let wanted = [2i64, -6, -3, 11, -4, -15, 12, -6, -1, -16];
+    by_chunks!(rt, 7i64, wanted, map2_z, Z2::Sub, &LEFT, &RIGHT);
+    Ok(())
+}
+
+#[test]
+fn turns_bits_over(rt: HostRuntime) -> Result<(), Fail> {
+    let wanted = [-4i64, 3, -1, -8, -2, 8, -6, -3, -9, 5];
+    by_chunks!(rt, 7i64, wanted, map1_z, Z1::Not, &LEFT);
+    Ok(())
+}
+
+#[test]
+fn tells_which_are_less(rt: HostRuntime) -> Result<(), Fail> {
+    let wanted = [
+        false, true, true, false, true, true, false, true, true, true,
+    ];
+    by_chunks!(rt, true, wanted, compare2, Cmp::Les, &LEFT, &RIGHT);
+    Ok(())
+}
+
+#[test]
+fn tells_which_differ(rt: HostRuntime) -> Result<(), Fail> {
+    let wanted = [
+        false, true, false, true, false, false, true, true, false, true,
+    ];
+    by_chunks!(rt, true, wanted, map2_b, B2::Xor, &FLAGS, &OTHERS);
+    Ok(())
+}
+
+#[test]
+fn turns_truth_values_over(rt: HostRuntime) -> Result<(), Fail> {
+    let wanted = [
+        false, true, true, false, false, true, false, true, true, false,
+    ];
+    by_chunks!(rt, true, wanted, map1_b, B1::Not, &FLAGS);
+    Ok(())
+}
+
+#[test]
+fn tells_which_are_not_zero(rt: HostRuntime) -> Result<(), Fail> {
+    let wanted = [true, true, false, true, true, true, true, true, true, true];
+    by_chunks!(rt, false, wanted, truth, &LEFT);
+    Ok(())
+}
+
+#[test]
+fn gives_ones_for_true(rt: HostRuntime) -> Result<(), Fail> {
+    let wanted = [1i64, 0, 0, 1, 1, 0, 1, 0, 0, 1];
+    by_chunks!(rt, 7i64, wanted, number, &FLAGS);
+    Ok(())
+}
+
+#[test]
+fn chooses_integers(rt: HostRuntime) -> Result<(), Fail> {
+    let wanted = [3i64, 2, 3, 7, 1, 6, 5, 8, 9, -6];
+    by_chunks!(rt, 7i64, wanted, select_z, &FLAGS, &LEFT, &RIGHT);
+    Ok(())
+}
+
+#[test]
+fn chooses_truth_values(rt: HostRuntime) -> Result<(), Fail> {
+    let wanted = [
+        true, false, false, false, true, false, false, false, false, false,
+    ];
+    by_chunks!(rt, true, wanted, select_b, &FLAGS, &OTHERS, &FLAGS);
+    Ok(())
+}
+
+#[test]
+fn adds_up_segments(rt: HostRuntime) -> Result<(), Fail> {
+    let segments = cut(rt.alloc(), &LENGTHS)?;
+    assert!(rt; segments.total() == LEFT.len());
+    let wanted = [0i64, -1, 7, 0, -1, 0, 2];
+    by_chunks!(rt, 7i64, wanted, reduce_z, ScanZ::Add, &LEFT, &segments);
+    Ok(())
+}
+
+#[test]
+fn tells_in_which_segments_all_are_true(rt: HostRuntime) -> Result<(), Fail> {
+    let segments = cut(rt.alloc(), &LENGTHS)?;
+    assert!(rt; segments.total() == FLAGS.len());
+    let wanted = [true, false, true, true, false, true, false];
+    by_chunks!(rt, true, wanted, reduce_b, ScanB::And, &FLAGS, &segments);
+    Ok(())
+}
+
+#[test]
+fn reduces_all_items(rt: HostRuntime) -> Result<(), Fail> {
+    for chunk in [1, 2, 7, 4_096] {
+        let mut meter = Meter::with_chunk(chunk);
+        assert_eq!(rt; reduce_whole_z(&rt, &mut meter, ScanZ::Add, &LEFT), 7);
+        assert_eq!(rt;
+            reduce_whole_z(&Sequential, &mut meter, ScanZ::Max, &LEFT),
+            8
+        );
+        assert!(rt; reduce_whole_b(&rt, &mut meter, ScanB::Xor, &FLAGS));
+        assert!(rt; !reduce_whole_b(&Sequential, &mut meter, ScanB::And, &FLAGS));
+        assert_eq!(rt; meter.runs(), 4);
+    }
+    Ok(())
+}
+
+#[test]
+fn adds_up_before_each_item(rt: HostRuntime) -> Result<(), Fail> {
+    let wanted = [0i64, 3, -1, -1, 6, 7, -2, 3, 5, 13];
+    by_chunks!(rt, 7i64, wanted, scan_whole_z, ScanZ::Add, &LEFT);
+    Ok(())
+}
+
+#[test]
+fn tells_before_which_items_one_is_true(rt: HostRuntime) -> Result<(), Fail> {
+    let wanted = [false, true, true, true, true, true, true, true, true, true];
+    by_chunks!(rt, true, wanted, scan_whole_b, ScanB::Ior, &FLAGS);
+    Ok(())
+}
+
+#[test]
+fn adds_up_before_each_item_of_a_segment(rt: HostRuntime) -> Result<(), Fail> {
+    let segments = cut(rt.alloc(), &LENGTHS)?;
+    assert!(rt; segments.total() == LEFT.len());
+    let wanted = [0i64, 3, -1, 0, 0, 1, -8, -3, 0, 8];
+    by_chunks!(rt, 7i64, wanted, scan_z, ScanZ::Add, &LEFT, &segments);
+    Ok(())
+}
+
+#[test]
+fn tells_before_which_items_of_a_segment_an_odd_number_is_true(
+    rt: HostRuntime,
+) -> Result<(), Fail> {
+    let segments = cut(rt.alloc(), &LENGTHS)?;
+    assert!(rt; segments.total() == FLAGS.len());
+    let wanted = [
+        false, true, true, false, false, true, true, false, false, false,
+    ];
+    by_chunks!(rt, true, wanted, scan_b, ScanB::Xor, &FLAGS, &segments);
+    Ok(())
+}
+
+#[test]
+fn begins_anew_behind_empty_segments(rt: HostRuntime) -> Result<(), Fail> {
+    let segments = cut(rt.alloc(), &[0, 50_000, 0, 0, 50_000])?;
+    let ones = vec![in rt.alloc(); 1i64; 100_000]?;
+    assert!(rt; segments.total() == ones.len());
+    let mut meter = Meter::with_chunk(4_095);
+    let made = scan_z(&rt, rt.alloc(), &mut meter, ScanZ::Add, &ones, &segments);
+    let made = made.map_err(|_| "refused")?;
+    assert!(rt; made.get(49_999) == Some(&49_999) && made.get(50_000) == Some(&0));
+    let sums = reduce_z(&rt, rt.alloc(), &mut meter, ScanZ::Add, &ones, &segments);
+    let wanted = [0i64, 50_000, 0, 0, 50_000];
+    assert!(rt; sums.is_ok_and(|sums| sums.as_slice() == wanted.as_slice()));
+    Ok(())
+}

@@ -1,0 +1,21 @@
+//! A kernel in the calling thread alone, and the meter that goes with it.
+
+use scan_kernels::{Meter, Sequential, Z2, map2_z};
+use std::process::Abort;
+
+#[test]
+fn runs_with_no_runtime(rt: HostRuntime) {
+    let mut meter = Meter::with_chunk(2);
+    let made = map2_z(
+        &Sequential,
+        rt.alloc(),
+        &mut meter,
+        Z2::Sub,
+        &[1, 20, 3],
+        &[10, 2, 3],
+    );
+    assert!(rt; made.is_ok_and(|made| made.as_slice() == [-9i64, 18, 0].as_slice()));
+    assert_eq!(rt; meter.runs(), 1);
+    assert_eq!(rt; meter.chunk(), 2);
+    assert_eq!(rt; Meter::new().chunk(), 4_096);
+}

@@ -1,0 +1,12 @@
+//! Tests of segment lists, kernels and tests of indices on small vectors, with ample memory. They stand above the libraries, so
+//! that those are proved once.
+#![tactic(auto)]
+
+#[cfg(test)]
+mod cut;
+#[cfg(test)]
+mod kernels;
+#[cfg(test)]
+mod permutes;
+#[cfg(test)]
+mod segments;

@@ -1,0 +1,48 @@
+//! Packs, and how many items each segment keeps.
+
+use crate::cut::cut;
+use permute_kernels::{pack_b, pack_z, packed_lengths};
+use scan_kernels::Meter;
+use std::process::Abort;
+use std::test::Fail;
+
+#[test]
+fn packs_integers(rt: HostRuntime) -> Result<(), Fail> {
+    let mut meter = Meter::new();
+    let made = pack_z(
+        &rt,
+        rt.alloc(),
+        &mut meter,
+        &[5, 6, 7, 8],
+        &[true, false, false, true],
+    )
+    .map_err(|_| "refused")?;
+    assert_eq!(rt; made.as_slice(), [5i64, 8].as_slice());
+    assert_eq!(rt; meter.runs(), 1);
+    Ok(())
+}
+
+#[test]
+fn packs_truth_values(rt: HostRuntime) -> Result<(), Fail> {
+    let mut meter = Meter::new();
+    let made = pack_b(&rt, rt.alloc(), &mut meter, &[true, false], &[false, true]).map_err(
+        |_| "refused",
+    )?;
+    assert_eq!(rt; made.as_slice(), [false].as_slice());
+    assert_eq!(rt; meter.runs(), 1);
+    Ok(())
+}
+
+#[test]
+fn counts_what_each_segment_keeps(rt: HostRuntime) -> Result<(), Fail> {
+    let segments = cut(rt.alloc(), &[3, 1])?;
+    assert!(rt; segments.total() == 4);
+    let mut meter = Meter::new();
+    let flags = [true, false, false, true];
+    let made = packed_lengths(&rt, rt.alloc(), &mut meter, &flags, &segments).map_err(
+        |_| "refused",
+    )?;
+    assert_eq!(rt; made.as_slice(), [1i64, 1].as_slice());
+    assert_eq!(rt; meter.runs(), 1);
+    Ok(())
+}

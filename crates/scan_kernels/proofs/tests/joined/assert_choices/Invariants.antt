@@ -1,5 +1,0 @@
-use Rattle.std.proofs.Common.{◌≡◌, All, length, take}
-use Rattle.scan_kernels.proofs.tests.joined.assert_choices.Given as goal
-
-abbrev pub invariant-loop-part : goal.invariant-loop-part
-invariant-loop-part g l = All (λ p. (length p.0.now ≡ length p.1.now) × (length p.0.now ≡ length p.2.now)) (take l.part-index l.parts)
