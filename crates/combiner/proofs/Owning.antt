@@ -1,6 +1,6 @@
 -- A caller that runs its own call while it has the book.
--- `own_entered` is its entry, and `own_runs` what it answers.
-use Rattle.std.proofs.Common.{◌≡◌, ℕ, ◌+◌, List, [], ◌∷◌, ◌++◌, length, append-nil, sym, ap, ◌∙◌, subst, length-append}
+-- `own_entered` is its entry, `own_runs` what it answers, and `own_answers` the same of what the book says.
+use Rattle.std.proofs.Common.{◌≡◌, ℕ, ◌+◌, true, List, [], ◌∷◌, ◌++◌, length, append-nil, sym, ap, ◌∙◌, subst, length-append, Result, Ok, Err, is_ok, IfOk, OnOk}
 use Rattle.cvl_text.specs.declared.call.Call.{Call}
 use Rattle.cvl_text.specs.declared.reply.Reply.{Reply}
 use Rattle.cvl_text.specs.Answers.{Answer, answer_of}
@@ -33,3 +33,15 @@ own_runs call c k room line line' place reply is at says room_is saw had now = r
       (λ i. (room_is i, sym is i, sym says i))
       (answers-from_run room c.standing.seen line c.standing.own c.standing.number (length (calls_by c.standing.number line)) call saw had);
 }
+
+-- where there is an answer, what holds with one does
+pub on_answer : {T E P : Type 0} (r : Result T E) → true ≡ is_ok r → OnOk r P → P
+on_answer (Ok _) is p = p
+on_answer (Err _) is p = absurd (cc is)
+
+-- and an answer of the book is the call's
+pub own_answers : {E : Type 0} (call : Call) (c k : Known) (room : ℕ) (line line' : List Entry) (r : Result (ℕ × Reply) E) → OnOk r (line' ≡ line ++ next_entry line c.standing.number call ∷ [])
+    → IfOk r (λ a. a.0 ≡ length line) → IfOk r (λ a. answer_of a.1 ≡ reply_after room line call) → room ≡ c.standing.room → Begins c.standing.seen line → calls_by c.standing.number line ≡ c.standing.own
+    → k ≡ entering_line c line' → IfOk r (λ a. HasEntered call c k a.0 a.1)
+own_answers call c k room line line' (Ok a) is at says room_is saw had now = own_runs call c k room line line' a.0 a.1 is at says room_is saw had now
+own_answers call c k room line line' (Err _) is at says room_is saw had now = tt

@@ -1,12 +1,13 @@
 //! A call of a caller that finds the book free: it runs at once, on no slot, and what others left is served behind it.
 
-ghost use Rattle.std.specs.Prelude.{◌≡◌, ◌+◌, ◌<◌, ◌≤◌, true, Some, None, IfOk, IfErr, OnOk, OnErr};
+ghost use Rattle.std.specs.Prelude.{◌≡◌, ◌+◌, ◌<◌, ◌≤◌, true, Some, None, IfOk, IfErr, OnErr};
 ghost use Rattle.call_history.specs.Callers.{caller_limit, calls_by};
 ghost use Rattle.call_history.specs.History.{Begins};
+ghost use Rattle.request_slots.specs.Changes.{ShowsLine};
 ghost use Rattle.request_slots.specs.Passes.{fresh_pass};
-ghost use Rattle.request_slots.specs.Views.{pass_in, with_standing, IsSpare};
+ghost use Rattle.request_slots.specs.Views.{pass_in, IsSpare};
 ghost use Rattle.combiner.specs.Standing.{IsIdle, IsResting, callers_of, Rests, IsOfCallers};
-ghost use Rattle.combiner.specs.Says.{MeetsAnother, IsAnsweredTo};
+ghost use Rattle.combiner.specs.Says.{IsAnsweredTo};
 ghost use Rattle.combiner.specs.Own.{HasEntered, KeepsCall, IsEnded};
 
 use crate::pass::{serve, take_all};
@@ -41,9 +42,11 @@ fn enter(
     ensures back { IfErr result (λ refused. refused.0 ≡ call) }
     ensures kept { OnErr result (seat.new ≡ seat.old) }
 {
-    let answer = book.run(execution, alloc, seat.number() as u64, call)?;
-    slots.step_enter(seat, book);
-    Ok(answer)
+    let ran = book.run(execution, alloc, seat.number() as u64, call);
+    if ran.is_ok() {
+        slots.step_enter(seat, book);
+    }
+    ran
 }
 
 /// Serves what others left, and gives the desk back.
@@ -78,35 +81,33 @@ fn serve_left(
     }
 }
 
-/// Runs a call of an idle caller, unless another caller has the desk: then the call comes back as the outer error, and nothing
-/// changes.
+/// Runs a call of an idle caller that has just taken the desk, serves what others left, and gives the desk back.
 pub(crate) fn run_own(
     execution: &impl Execution,
     alloc: Global,
     slots: &Slots,
     seat: &mut Seat,
     callers: usize,
+    mut desk: Box<Desk>,
     call: Call,
-) -> Result<Result<(u64, Reply), (Call, OutOfMemory)>, Call>
+) -> Result<(u64, Reply), (Call, OutOfMemory)>
     requires place { seat.old.standing.machine ≡ slots.now }
     requires callers { (callers + 1 ≡ slots.now.slots) × (callers ≤ 64) }
     requires idle { IsIdle seat.old.standing }
-    requires no_desk { seat.old.pass ≡ None }
+    requires fresh { seat.old.pass ≡ Some (fresh_pass desk.value.book.history) }
+    requires held { seat.old.standing.held ≡ true }
+    requires inside { seat.old.standing.number < callers }
+    requires line { ShowsLine callers seat.old.standing desk.value.book }
+    requires spare { IsSpare slots.now.slots desk.value }
     ensures place { seat.new.standing.machine ≡ slots.now }
-    ensures ended { OnOk result (IsEnded seat.old.standing seat.new.standing) }
-    ensures resting { OnOk result (IsResting seat.new) }
-    ensures answered { IfOk result (λ ran. IfOk ran (λ answer.
-        IsAnsweredTo call seat.old.standing seat.new.standing answer.0 answer.1)) }
-    ensures back { IfOk result (λ ran. IfErr ran (λ refused. refused.0 ≡ call)) }
-    ensures record_kept { IfOk result (λ ran. OnErr ran (seat.new.standing.own ≡ seat.old.standing.own)) }
-    ensures handed_back { IfErr result (λ back. back ≡ call) }
-    ensures busy { OnErr result (MeetsAnother seat.old.standing seat.new.standing) }
-    ensures only_met { OnErr result (seat.new ≡ with_standing seat.old seat.new.standing) }
+    ensures ended { IsEnded seat.old.standing seat.new.standing }
+    ensures resting { IsResting seat.new }
+    ensures answered { IfOk result (λ answer.
+        IsAnsweredTo call seat.old.standing seat.new.standing answer.0 answer.1) }
+    ensures back { IfErr result (λ refused. refused.0 ≡ call) }
+    ensures record_kept { OnErr result (seat.new.standing.own ≡ seat.old.standing.own) }
 {
-    let Some(mut desk) = slots.step_lock(seat) else {
-        return Err(call);
-    };
     let ran = enter(execution, alloc, slots, seat, &mut desk.book, call);
     serve_left(execution, alloc, slots, seat, callers, desk);
-    Ok(ran)
+    ran
 }

@@ -21,7 +21,7 @@ use Rattle.request_slots.specs.declared.known.Known.{Known}
 use Rattle.request_slots.specs.declared.known.Phase.TheVariants.{Idle}
 use Rattle.request_slots.specs.declared.known.View.{View}
 use Rattle.request_slots.specs.declared.known.View.TheVariants.{Caller}
-use Rattle.request_slots.specs.Stages.{Stage, unmade, idle, posted, taken, done, code, Station}
+use Rattle.request_slots.specs.Stages.{Stage, unmade, idle, posted, taken, done, code, Station, own_word}
 use Rattle.request_slots.specs.Passes.{pass_of, part_of}
 use Rattle.request_slots.specs.Locks.{HolderSits}
 use Rattle.request_slots.specs.Requests.{StageHolds, FateHolds, request_at}
@@ -53,7 +53,7 @@ module _ (room : ℕ) (s : State Slot View) (r : Lawful room s) (id : ℕ) (c : 
   inside : c.standing.number < r.n
   inside = knows.inside
 
-  idle_word : c.standing.phase ≡ Idle → get_or s.words (c.standing.number + 2) 0 ≡ 1
+  idle_word : c.standing.phase ≡ Idle → get_or s.words (own_word c.standing.number) 0 ≡ 1
   idle_word at_rest = let phase = subst (PhaseHolds c.standing.number c.standing.seen c.standing.own here) at_rest knows.phase in (r.each_caller c.standing.number inside).word_is ∙ ap code phase.stage_is
 
   -- the station of a caller that leaves these calls
@@ -157,9 +157,9 @@ module _ (room : ℕ) (s : State Slot View) (r : Lawful room s) (id : ℕ) (c : 
       )
 
 posts_at : (room slots id : ℕ) (me : Sat) (call : Call) → let c : Known = known_of me.0 in me.0 ≡ Caller c → c.standing.phase ≡ Idle → c.pass ≡ None → me.1 ≡ (c.standing.number + 1, Asked call) ∷ rest me.1
-    → Allows (Lawful room) slots id me (c.standing.number + 2) (λ x. either (eqb x 1) 2 x) (Posts (step slots (c.standing.number + 2) 1 2 none) me)
+    → Allows (Lawful room) slots id me (own_word c.standing.number) (λ x. either (eqb x 1) 2 x) (Posts (step slots (own_word c.standing.number) 1 2 none) me)
 posts_at room slots id me call is at_rest no_pass hand s r deep at small =
-    let c : Known = known_of me.0 in let i : ℕ = c.standing.number + 2 in let x : ℕ = get_or s.words i 0 in
+    let c : Known = known_of me.0 in let i : ℕ = own_word c.standing.number in let x : ℕ = get_or s.words i 0 in
     let there : get_elem? s.views id ≡ some (Caller c) = at ∙ ap (λ (v : View). some v) is in
     let found : x ≡ 1 = idle_word room s r id c there at_rest in (
       Caller (with_standing c (leaving_calls c.standing (calls_in_hand me.1))),
@@ -171,9 +171,9 @@ posts_at room slots id me call is at_rest no_pass hand s r deep at small =
     )
 
 collects_at : (room slots id : ℕ) (me : Sat) → let c : Known = known_of me.0 in me.0 ≡ Caller c → IsLeft c.standing
-    → Allows (Lawful room) slots id me (c.standing.number + 2) (λ x. either (eqb x 4) 1 x) (Collects (step slots (c.standing.number + 2) 4 1 none) me)
+    → Allows (Lawful room) slots id me (own_word c.standing.number) (λ x. either (eqb x 4) 1 x) (Collects (step slots (own_word c.standing.number) 4 1 none) me)
 collects_at room slots id me is left s r deep at small =
-    let c : Known = known_of me.0 in let i : ℕ = c.standing.number + 2 in let x : ℕ = get_or s.words i 0 in
+    let c : Known = known_of me.0 in let i : ℕ = own_word c.standing.number in let x : ℕ = get_or s.words i 0 in
     let there : get_elem? s.views id ≡ some (Caller c) = at ∙ ap (λ (v : View). some v) is in
     let knows = r.each_seat id (Caller c) there in
     let held = r.each_caller c.standing.number (inside room s r id c there) in
@@ -199,13 +199,13 @@ collects_at room slots id me is left s r deep at small =
 
 -- the same for a caller of this number, which has put its call into its slot
 pub posts : (room slots id k : ℕ) (old me : Sat) (call : Call) → me ≡ (old.0, (k + 1, Asked call) ∷ rest old.1) → old.0 ≡ Caller (known_of old.0) → (known_of old.0).standing.number ≡ k
-    → (known_of old.0).standing.phase ≡ Idle → (known_of old.0).pass ≡ None → Allows (Lawful room) slots id me (k + 2) (λ x. either (eqb x 1) 2 x) (Posts (step slots (k + 2) 1 2 none) me)
+    → (known_of old.0).standing.phase ≡ Idle → (known_of old.0).pass ≡ None → Allows (Lawful room) slots id me (own_word k) (λ x. either (eqb x 1) 2 x) (Posts (step slots (own_word k) 1 2 none) me)
 posts room slots id k old me call put is number at_rest no_pass =
-    subst (λ (m : Sat). Allows (Lawful room) slots id m (k + 2) (λ x. either (eqb x 1) 2 x) (Posts (step slots (k + 2) 1 2 none) m)) (sym put)
-    (subst (λ (z : ℕ). Allows (Lawful room) slots id (old.0, (z + 1, Asked call) ∷ rest old.1) (z + 2) (λ x. either (eqb x 1) 2 x) (Posts (step slots (z + 2) 1 2 none) (old.0, (z + 1, Asked call) ∷ rest old.1)))
+    subst (λ (m : Sat). Allows (Lawful room) slots id m (own_word k) (λ x. either (eqb x 1) 2 x) (Posts (step slots (own_word k) 1 2 none) m)) (sym put)
+    (subst (λ (z : ℕ). Allows (Lawful room) slots id (old.0, (z + 1, Asked call) ∷ rest old.1) (own_word z) (λ x. either (eqb x 1) 2 x) (Posts (step slots (own_word z) 1 2 none) (old.0, (z + 1, Asked call) ∷ rest old.1)))
     number (posts_at room slots id (old.0, ((known_of old.0).standing.number + 1, Asked call) ∷ rest old.1) call is at_rest no_pass refl))
 
 pub collects : (room slots id k : ℕ) (me : Sat) → me.0 ≡ Caller (known_of me.0) → (known_of me.0).standing.number ≡ k → IsLeft (known_of me.0).standing
-    → Allows (Lawful room) slots id me (k + 2) (λ x. either (eqb x 4) 1 x) (Collects (step slots (k + 2) 4 1 none) me)
+    → Allows (Lawful room) slots id me (own_word k) (λ x. either (eqb x 4) 1 x) (Collects (step slots (own_word k) 4 1 none) me)
 collects room slots id k me is number left =
-    subst (λ (z : ℕ). Allows (Lawful room) slots id me (z + 2) (λ x. either (eqb x 4) 1 x) (Collects (step slots (z + 2) 4 1 none) me)) number (collects_at room slots id me is left)
+    subst (λ (z : ℕ). Allows (Lawful room) slots id me (own_word z) (λ x. either (eqb x 4) 1 x) (Collects (step slots (own_word z) 4 1 none) me)) number (collects_at room slots id me is left)

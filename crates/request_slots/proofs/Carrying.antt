@@ -13,7 +13,7 @@ use Rattle.atomic_table.proofs.Lists.{at_set, set_here, set_else}
 use Rattle.call_history.specs.declared.entry.Entry.{Entry}
 use Rattle.request_slots.specs.declared.desk.Slot.{Slot}
 use Rattle.request_slots.specs.declared.known.View.{View}
-use Rattle.request_slots.specs.Stages.{Stage, unmade, idle, posted, taken, done, Station, Home}
+use Rattle.request_slots.specs.Stages.{Stage, unmade, idle, posted, taken, done, Station, Home, length_word, own_word}
 use Rattle.request_slots.specs.Passes.{Lock, Part, part_of}
 use Rattle.request_slots.specs.Locks.{LockHolds, HolderSits, sitter_of}
 use Rattle.request_slots.specs.Requests.{StageHolds, request_at, CallerHolds}
@@ -50,27 +50,27 @@ part_free room line part part' word home k s held nothing nothing' h = record {
 
 -- a caller whose word and slot a step does not touch
 caller_stays : (room : ℕ) (line : List Entry) (part part' : Part) (words words' : List ℕ) (homes homes' : List (maybe.Option Slot)) (k : ℕ) (s s' : Station) → part' ≡ part → s' ≡ s
-    → get_or words' (k + 2) 0 ≡ get_or words (k + 2) 0 → get_elem? homes' (k + 1) ≡ get_elem? homes (k + 1)
-    → CallerHolds room line part (get_or words (k + 2) 0) (get_elem? homes (k + 1)) k s → CallerHolds room line part' (get_or words' (k + 2) 0) (get_elem? homes' (k + 1)) k s'
+    → get_or words' (own_word k) 0 ≡ get_or words (own_word k) 0 → get_elem? homes' (k + 1) ≡ get_elem? homes (k + 1)
+    → CallerHolds room line part (get_or words (own_word k) 0) (get_elem? homes (k + 1)) k s → CallerHolds room line part' (get_or words' (own_word k) 0) (get_elem? homes' (k + 1)) k s'
 caller_stays room line part part' words words' homes homes' k s s' same_part same_station same_word same_home h =
     subst (λ (x : Part × ℕ × Home × Station). CallerHolds room line x.0 x.1 x.2 k x.3) (λ i. (sym same_part i, sym same_word i, sym same_home i, sym same_station i)) h
 
 -- all callers after a step on the word and the slot of caller i
 callers_after : (room n : ℕ) (line : List Entry) (part part' : ℕ → Part) (words : List ℕ) (homes : List (maybe.Option Slot)) (station : ℕ → Station) (i : ℕ) (st : Station) (x : ℕ) (y : maybe.Option Slot)
-    → length words ≡ n + 2 → length homes ≡ n + 1 → i < n → ((k : ℕ) → k ≢ i → part' k ≡ part k) → CallerHolds room line (part' i) x (some y) i st
-    → ((k : ℕ) → k < n → CallerHolds room line (part k) (get_or words (k + 2) 0) (get_elem? homes (k + 1)) k (station k))
-    → (k : ℕ) → k < n → CallerHolds room line (part' k) (get_or (set words (i + 2) x) (k + 2) 0) (get_elem? (set homes (i + 1) y) (k + 1)) k (put station i st k)
+    → length words ≡ own_word n → length homes ≡ n + 1 → i < n → ((k : ℕ) → k ≢ i → part' k ≡ part k) → CallerHolds room line (part' i) x (some y) i st
+    → ((k : ℕ) → k < n → CallerHolds room line (part k) (get_or words (own_word k) 0) (get_elem? homes (k + 1)) k (station k))
+    → (k : ℕ) → k < n → CallerHolds room line (part' k) (get_or (set words (own_word i) x) (own_word k) 0) (get_elem? (set homes (i + 1) y) (k + 1)) k (put station i st k)
 callers_after room n line part part' words homes station i st x y wide deep inside parts here all k lt =
     dite (ℕ_discrete k i)
-    (λ same. subst (λ (z : ℕ). CallerHolds room line (part' z) (get_or (set words (i + 2) x) (z + 2) 0) (get_elem? (set homes (i + 1) y) (z + 1)) z (put station i st z)) (sym same)
+    (λ same. subst (λ (z : ℕ). CallerHolds room line (part' z) (get_or (set words (own_word i) x) (own_word z) 0) (get_elem? (set homes (i + 1) y) (z + 1)) z (put station i st z)) (sym same)
     (subst (λ (z : ℕ × Home × Station). CallerHolds room line (part' i) z.0 z.1 i z.2)
-    (λ j. (sym (get_or-set_same words (i + 2) x 0 (omega arith)) j, sym (set_here homes (i + 1) y (omega arith)) j, sym (put_here station i st) j)) here))
-    (λ other. caller_stays room line (part k) (part' k) words (set words (i + 2) x) homes (set homes (i + 1) y) k (station k) (put station i st k) (parts k other) (put_else station i st k other)
-    (get_or-set_other words (i + 2) (k + 2) x 0 (λ e. other (omega arith))) (set_else homes (i + 1) (k + 1) y (λ e. other (omega arith))) (all k lt))
+    (λ j. (sym (get_or-set_same words (own_word i) x 0 (omega arith)) j, sym (set_here homes (i + 1) y (omega arith)) j, sym (put_here station i st) j)) here))
+    (λ other. caller_stays room line (part k) (part' k) words (set words (own_word i) x) homes (set homes (i + 1) y) k (station k) (put station i st k) (parts k other) (put_else station i st k other)
+    (get_or-set_other words (own_word i) (own_word k) x 0 (λ e. other (omega arith))) (set_else homes (i + 1) (k + 1) y (λ e. other (omega arith))) (all k lt))
 
 -- the table after a step on the word and the slot of caller i, by the seat `me`
 abbrev pub moved : State Slot View → ℕ → ℕ → maybe.Option Slot → ℕ → View → State Slot View
-moved s i x y me w = record { words = set s.words (i + 2) x; homes = set s.homes (i + 1) y; views = set s.views me w }
+moved s i x y me w = record { words = set s.words (own_word i) x; homes = set s.homes (i + 1) y; views = set s.views me w }
 
 pub caller_step : (room : ℕ) (s : State Slot View) (r : Lawful room s) (i x : ℕ) (y : maybe.Option Slot) (st : Station) (lock : Lock) (me : ℕ) (v w : View) → i < r.n → i < r.made
     → get_elem? s.views me ≡ some v → sitter_of w ≡ sitter_of v → st.seat ≡ (r.station i).seat
@@ -87,12 +87,12 @@ caller_step room s r i x y st lock me v w inside made there same seat parts here
       line = r.line;
       lock = lock;
       station = put r.station i st;
-      wide = length-set s.words (i + 2) x ∙ r.wide;
+      wide = length-set s.words (own_word i) x ∙ r.wide;
       deep = length-set s.homes (i + 1) y ∙ r.deep;
       not_made = λ k above. subst IsNotMade (sym (put_else r.station i st k (λ e. omega arith))) (r.not_made k above);
-      line_holds = record { length_is = get_or-set_other s.words (i + 2) 1 x 0 (λ e. omega arith) ∙ r.line_holds.length_is; no_strangers = r.line_holds.no_strangers };
+      line_holds = record { length_is = get_or-set_other s.words (own_word i) length_word x 0 (λ e. omega arith) ∙ r.line_holds.length_is; no_strangers = r.line_holds.no_strangers };
       lock_holds = subst (λ (z : ℕ × Home). LockHolds room r.n r.line z.0 z.1 lock)
-          (λ j. (sym (get_or-set_other s.words (i + 2) 0 x 0 (λ e. omega arith)) j, sym (set_else s.homes (i + 1) 0 y (λ e. omega arith)) j)) locked;
+          (λ j. (sym (get_or-set_other s.words (own_word i) 0 x 0 (λ e. omega arith)) j, sym (set_else s.homes (i + 1) 0 y (λ e. omega arith)) j)) locked;
       holder_sits = holder;
       sit_apart = seats_apart room r.n r.made r.line lock (put r.station i st) (set s.views me w) seats;
       made_sit = made_sit_after s.views r.station (put r.station i st) r.made me v w there same (put_seat r.station i st seat) r.made_sit;
@@ -136,7 +136,7 @@ handed s x y me w = record { words = set s.words 0 x; homes = set s.homes 0 y; v
 
 pub lock_step : (room : ℕ) (s : State Slot View) (r : Lawful room s) (x : ℕ) (y : maybe.Option Slot) (station : ℕ → Station) (lock : Lock) (me : ℕ) (v w : View)
     → get_elem? s.views me ≡ some v → sitter_of w ≡ sitter_of v → ((k : ℕ) → (station k).seat ≡ (r.station k).seat) → ((k : ℕ) → r.made ≤ k → IsNotMade (station k)) → LockHolds room r.n r.line x (some y) lock
-    → ((k : ℕ) → k < r.n → CallerHolds room r.line (part_of lock k) (get_or s.words (k + 2) 0) (get_elem? s.homes (k + 1)) k (station k))
+    → ((k : ℕ) → k < r.n → CallerHolds room r.line (part_of lock k) (get_or s.words (own_word k) 0) (get_elem? s.homes (k + 1)) k (station k))
     → Knows room r.n r.made r.line lock station me w
     → ((j : ℕ) → j ≢ me → (v : View) → Knows room r.n r.made r.line r.lock r.station j v → Knows room r.n r.made r.line lock station j v)
     → HolderSits (set s.views me w) station lock → Lawful room (handed s x y me w)
@@ -151,14 +151,14 @@ lock_step room s r x y station lock me v w there same seats_are above locked cal
       wide = length-set s.words 0 x ∙ r.wide;
       deep = length-set s.homes 0 y ∙ r.deep;
       not_made = above;
-      line_holds = record { length_is = get_or-set_other s.words 0 1 x 0 (λ e. omega arith) ∙ r.line_holds.length_is; no_strangers = r.line_holds.no_strangers };
+      line_holds = record { length_is = get_or-set_other s.words 0 length_word x 0 (λ e. omega arith) ∙ r.line_holds.length_is; no_strangers = r.line_holds.no_strangers };
       lock_holds = let wide = r.wide in let deep = r.deep in subst (λ (z : ℕ × Home). LockHolds room r.n r.line z.0 z.1 lock)
           (λ j. (sym (get_or-set_same s.words 0 x 0 (omega arith)) j, sym (set_here s.homes 0 y (omega arith)) j)) locked;
       holder_sits = holder;
       sit_apart = seats_apart room r.n r.made r.line lock station (set s.views me w) seats;
       made_sit = made_sit_after s.views r.station station r.made me v w there same seats_are r.made_sit;
       each_caller = λ k lt. caller_stays room r.line (part_of lock k) (part_of lock k) s.words (set s.words 0 x) s.homes (set s.homes 0 y) k (station k) (station k) refl refl
-          (get_or-set_other s.words 0 (k + 2) x 0 (λ e. omega arith)) (set_else s.homes 0 (k + 1) y (λ e. omega arith)) (callers k lt);
+          (get_or-set_other s.words 0 (own_word k) x 0 (λ e. omega arith)) (set_else s.homes 0 (k + 1) y (λ e. omega arith)) (callers k lt);
       each_seat = seats;
     }
 
@@ -182,6 +182,6 @@ relocked room s r lock e = record {
   holder_sits = subst (HolderSits s.views r.station) e r.holder_sits;
   sit_apart = r.sit_apart;
   made_sit = r.made_sit;
-  each_caller = subst (λ l. (k : ℕ) → k < r.n → CallerHolds room r.line (part_of l k) (get_or s.words (k + 2) 0) (get_elem? s.homes (k + 1)) k (r.station k)) e r.each_caller;
+  each_caller = subst (λ l. (k : ℕ) → k < r.n → CallerHolds room r.line (part_of l k) (get_or s.words (own_word k) 0) (get_elem? s.homes (k + 1)) k (r.station k)) e r.each_caller;
   each_seat = subst (λ l. (j : ℕ) (v : View) → get_elem? s.views j ≡ some v → Knows room r.n r.made r.line l r.station j v) e r.each_seat;
 }

@@ -18,7 +18,7 @@ use Rattle.request_slots.specs.declared.known.Pass.{Pass}
 use Rattle.request_slots.specs.declared.known.Known.{Known}
 use Rattle.request_slots.specs.declared.known.View.{View}
 use Rattle.request_slots.specs.declared.known.View.TheVariants.{Caller}
-use Rattle.request_slots.specs.Stages.{Stage, unmade, idle, posted, taken, done, Station, Home}
+use Rattle.request_slots.specs.Stages.{Stage, unmade, idle, posted, taken, done, Station, Home, length_word, own_word}
 use Rattle.request_slots.specs.Passes.{held_by, is_in, Part, part_of, commits}
 use Rattle.request_slots.specs.Requests.{FateHolds, ServedHolds, StageHolds, request_at, CallerHolds}
 use Rattle.request_slots.specs.Lawful.{Knows, Lawful}
@@ -83,7 +83,7 @@ module _ (room : ℕ) (s : State Slot View) (r : Lawful room s) (id : ℕ) (c : 
 
   -- the line becomes the history of the batch
   commit_keeps : (line' : List Entry) (outcomes : List Outcome) → p.committed ≡ false → ((i : ℕ) → i < r.n → is_in p.tried i ≡ true) → Fits room p.line p.taken line' outcomes
-      → Lawful room record { words = set s.words 1 (length line'); homes = s.homes; views = set s.views id (Caller (committing c p line' outcomes)) }
+      → Lawful room record { words = set s.words length_word (length line'); homes = s.homes; views = set s.views id (Caller (committing c p line' outcomes)) }
   commit_keeps line' outcomes open_yet all fits =
       let p' : Pass = commits p line' outcomes in
       let pass = holds_pass room s r id c there p has in
@@ -100,15 +100,15 @@ module _ (room : ℕ) (s : State Slot View) (r : Lawful room s) (id : ℕ) (c : 
         line = line';
         lock = held_by c.standing.number p';
         station = r.station;
-        wide = length-set s.words 1 (length line') ∙ r.wide;
+        wide = length-set s.words length_word (length line') ∙ r.wide;
         deep = r.deep;
         not_made = r.not_made;
         line_holds = record {
-          length_is = get_or-set_same s.words 1 (length line') 0 (omega arith);
+          length_is = get_or-set_same s.words length_word (length line') 0 (omega arith);
           no_strangers = λ k far. subst (λ q. FitsCaller room r.line line' k q (outcome_by k p.taken outcomes)) (pass.of_callers k far) (fitting.each k) ∙ r.line_holds.no_strangers k far;
         };
         lock_holds = record {
-          word_is = get_or-set_other s.words 1 0 (length line') 0 (λ e. omega arith) ∙ rule.lock_holds.word_is;
+          word_is = get_or-set_other s.words length_word 0 (length line') 0 (λ e. omega arith) ∙ rule.lock_holds.word_is;
           inside = rule.lock_holds.inside;
           home_is = rule.lock_holds.home_is;
           pass = record {
@@ -123,8 +123,8 @@ module _ (room : ℕ) (s : State Slot View) (r : Lawful room s) (id : ℕ) (c : 
         sit_apart = seats_apart room r.n r.made line' (held_by c.standing.number p') r.station (set s.views id (Caller (committing c p line' outcomes))) seats;
         made_sit = made_sit_after s.views r.station r.station r.made id (Caller c) (Caller (committing c p line' outcomes)) there refl (λ _. refl) r.made_sit;
         each_caller = λ k lt. subst (λ (z : ℕ). CallerHolds room line' (part_of (held_by c.standing.number p') k) z (get_elem? s.homes (k + 1)) k (r.station k))
-            (sym (get_or-set_other s.words 1 (k + 2) (length line') 0 (λ e. omega arith)))
-            (caller_commits room r.line line' (part_of (held_by c.standing.number p) k) (outcome_by k p.taken outcomes) (get_or s.words (k + 2) 0) (get_elem? s.homes (k + 1)) k (r.station k)
+            (sym (get_or-set_other s.words length_word (own_word k) (length line') 0 (λ e. omega arith)))
+            (caller_commits room r.line line' (part_of (held_by c.standing.number p) k) (outcome_by k p.taken outcomes) (get_or s.words (own_word k) 0) (get_elem? s.homes (k + 1)) k (r.station k)
             open_yet before_is fitting.grows (fitting.each k) (rule.each_caller k lt));
         each_seat = seats;
       }
@@ -132,7 +132,7 @@ module _ (room : ℕ) (s : State Slot View) (r : Lawful room s) (id : ℕ) (c : 
 pub commits_line : (room slots id : ℕ) (me : Sat) (line : List Entry) (outcomes : List Outcome) → me.0 ≡ Caller (known_of me.0) → (known_of me.0).pass ≡ Some (pass_in (known_of me.0))
     → (pass_in (known_of me.0)).committed ≡ false → ((i : ℕ) → i + 1 < slots → is_in (pass_in (known_of me.0)).tried i ≡ true)
     → Fits (known_of me.0).standing.room (pass_in (known_of me.0)).line (pass_in (known_of me.0)).taken line outcomes
-    → Allows (Lawful room) slots id me 1 (λ _. length line) (λ _. Commits line outcomes (step slots 1 (length line) 0 none) me (length line))
+    → Allows (Lawful room) slots id me length_word (λ _. length line) (λ _. Commits line outcomes (step slots length_word (length line) 0 none) me (length line))
 commits_line room slots id me line outcomes is has open_yet all fits s r deep at small =
     let c : Known = known_of me.0 in
     let there : get_elem? s.views id ≡ some (Caller c) = at ∙ ap (λ (v : View). some v) is in

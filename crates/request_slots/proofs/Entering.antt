@@ -17,7 +17,7 @@ use Rattle.request_slots.specs.declared.known.Pass.{Pass}
 use Rattle.request_slots.specs.declared.known.Known.{Known}
 use Rattle.request_slots.specs.declared.known.View.{View}
 use Rattle.request_slots.specs.declared.known.View.TheVariants.{Caller}
-use Rattle.request_slots.specs.Stages.{Stage, unmade, idle, posted, taken, done, Station, Home}
+use Rattle.request_slots.specs.Stages.{Stage, unmade, idle, posted, taken, done, Station, Home, length_word, own_word}
 use Rattle.request_slots.specs.Passes.{held_by, is_in, part_of, pass_of, fresh_pass}
 use Rattle.request_slots.specs.Fronts.{IsOfCallers}
 use Rattle.request_slots.specs.Requests.{StageHolds, request_at, CallerHolds}
@@ -117,7 +117,7 @@ module _ (room : ℕ) (s : State Slot View) (r : Lawful room s) (id : ℕ) (c : 
   no_strangers_since line' entered i far = others_since line' entered i (λ e. let inside = knows.inside in omega arith) ∙ r.line_holds.no_strangers i far
 
   -- the line becomes this one, which has more calls of this caller alone
-  enter_keeps : (line' : List Entry) → IsEntered k line line' → Lawful room record { words = set s.words 1 (length line'); homes = s.homes; views = set s.views id (Caller (entering_line c line')) }
+  enter_keeps : (line' : List Entry) → IsEntered k line line' → Lawful room record { words = set s.words length_word (length line'); homes = s.homes; views = set s.views id (Caller (entering_line c line')) }
   enter_keeps line' entered =
       let p : Pass = fresh_pass line' in
       let grew : Begins r.line line' = subst (λ l. Begins l line') same_line entered.grows in
@@ -134,15 +134,15 @@ module _ (room : ℕ) (s : State Slot View) (r : Lawful room s) (id : ℕ) (c : 
         line = line';
         lock = held_by k p;
         station = after line';
-        wide = length-set s.words 1 (length line') ∙ r.wide;
+        wide = length-set s.words length_word (length line') ∙ r.wide;
         deep = r.deep;
         not_made = λ m far. subst IsNotMade (sym (put_else r.station k st m (λ e. let made = knows.number_made in omega arith))) (r.not_made m far);
         line_holds = record {
-          length_is = get_or-set_same s.words 1 (length line') 0 (omega arith);
+          length_is = get_or-set_same s.words length_word (length line') 0 (omega arith);
           no_strangers = no_strangers_since line' entered;
         };
         lock_holds = record {
-          word_is = get_or-set_other s.words 1 0 (length line') 0 (λ e. omega arith) ∙ rule.lock_holds.word_is;
+          word_is = get_or-set_other s.words length_word 0 (length line') 0 (λ e. omega arith) ∙ rule.lock_holds.word_is;
           inside = rule.lock_holds.inside;
           home_is = rule.lock_holds.home_is;
           pass = record { line_is = refl; before_is = λ _. refl; grows = begins_self line'; all_tried = λ e. absurd (cc e); of_callers = λ _ _. refl };
@@ -151,25 +151,25 @@ module _ (room : ℕ) (s : State Slot View) (r : Lawful room s) (id : ℕ) (c : 
         sit_apart = seats_apart room r.n r.made line' (held_by k p) (after line') (set s.views id (Caller (entering_line c line'))) seats;
         made_sit = made_sit_after s.views r.station (after line') r.made id (Caller c) (Caller (entering_line c line')) there refl (put_seat r.station k st refl) r.made_sit;
         each_caller = λ i lt. subst (λ (z : ℕ). CallerHolds room line' (part_of (held_by k p) i) z (get_elem? s.homes (i + 1)) i (after line' i))
-            (sym (get_or-set_other s.words 1 (i + 2) (length line') 0 (λ e. omega arith))) (each line' grew (others_since line' entered) i lt);
+            (sym (get_or-set_other s.words length_word (own_word i) (length line') 0 (λ e. omega arith))) (each line' grew (others_since line' entered) i lt);
         each_seat = seats;
       }
     where
-      old : (i : ℕ) → i < r.n → CallerHolds room r.line (part_of (held_by k (fresh_pass r.line)) i) (get_or s.words (i + 2) 0) (get_elem? s.homes (i + 1)) i (r.station i)
-      old i lt = subst (λ l. CallerHolds room r.line (part_of (held_by k (fresh_pass l)) i) (get_or s.words (i + 2) 0) (get_elem? s.homes (i + 1)) i (r.station i)) same_line (rule.each_caller i lt)
+      old : (i : ℕ) → i < r.n → CallerHolds room r.line (part_of (held_by k (fresh_pass r.line)) i) (get_or s.words (own_word i) 0) (get_elem? s.homes (i + 1)) i (r.station i)
+      old i lt = subst (λ l. CallerHolds room r.line (part_of (held_by k (fresh_pass l)) i) (get_or s.words (own_word i) 0) (get_elem? s.homes (i + 1)) i (r.station i)) same_line (rule.each_caller i lt)
 
       each : (line' : List Entry) → Begins r.line line' → ((i : ℕ) → i ≢ k → calls_by i line' ≡ calls_by i r.line) → (i : ℕ) → i < r.n
-          → CallerHolds room line' (part_of (held_by k (fresh_pass line')) i) (get_or s.words (i + 2) 0) (get_elem? s.homes (i + 1)) i (after line' i)
+          → CallerHolds room line' (part_of (held_by k (fresh_pass line')) i) (get_or s.words (own_word i) 0) (get_elem? s.homes (i + 1)) i (after line' i)
       each line' grew others i lt = dite (ℕ_discrete i k)
-          (λ same. subst (λ (z : ℕ). CallerHolds room line' (part_of (held_by k (fresh_pass line')) z) (get_or s.words (z + 2) 0) (get_elem? s.homes (z + 1)) z (after line' z)) (sym same)
-          (subst (CallerHolds room line' (part_of (held_by k (fresh_pass line')) k) (get_or s.words (k + 2) 0) (get_elem? s.homes (k + 1)) k) (sym (here_is line'))
-          (caller_enters room k r.line line' (get_or s.words (k + 2) 0) (get_elem? s.homes (k + 1)) k here idle_here (old k knows.inside))))
-          (λ other. subst (CallerHolds room line' (part_of (held_by k (fresh_pass line')) i) (get_or s.words (i + 2) 0) (get_elem? s.homes (i + 1)) i) (sym (put_else r.station k (recorded here (calls_by k line')) i other))
-          (caller_stands room k r.line line' (get_or s.words (i + 2) 0) (get_elem? s.homes (i + 1)) i (r.station i) grew (others i other) (old i lt)))
+          (λ same. subst (λ (z : ℕ). CallerHolds room line' (part_of (held_by k (fresh_pass line')) z) (get_or s.words (own_word z) 0) (get_elem? s.homes (z + 1)) z (after line' z)) (sym same)
+          (subst (CallerHolds room line' (part_of (held_by k (fresh_pass line')) k) (get_or s.words (own_word k) 0) (get_elem? s.homes (k + 1)) k) (sym (here_is line'))
+          (caller_enters room k r.line line' (get_or s.words (own_word k) 0) (get_elem? s.homes (k + 1)) k here idle_here (old k knows.inside))))
+          (λ other. subst (CallerHolds room line' (part_of (held_by k (fresh_pass line')) i) (get_or s.words (own_word i) 0) (get_elem? s.homes (i + 1)) i) (sym (put_else r.station k (recorded here (calls_by k line')) i other))
+          (caller_stands room k r.line line' (get_or s.words (own_word i) 0) (get_elem? s.homes (i + 1)) i (r.station i) grew (others i other) (old i lt)))
 
 pub enters_line : (room slots id : ℕ) (me : Sat) (line : List Entry) → me.0 ≡ Caller (known_of me.0) → IsIdle (known_of me.0).standing
     → (known_of me.0).pass ≡ Some (fresh_pass (pass_in (known_of me.0)).line) → IsEntered (known_of me.0).standing.number (pass_in (known_of me.0)).line line
-    → Allows (Lawful room) slots id me 1 (λ _. length line) (λ _. Enters line (step slots 1 (length line) 0 none) me (length line))
+    → Allows (Lawful room) slots id me length_word (λ _. length line) (λ _. Enters line (step slots length_word (length line) 0 none) me (length line))
 enters_line room slots id me line is resting has entered s r deep at small =
     let c : Known = known_of me.0 in
     let there : get_elem? s.views id ≡ some (Caller c) = at ∙ ap (λ (v : View). some v) is in

@@ -22,7 +22,7 @@ use Rattle.request_slots.specs.declared.known.Phase.{Phase}
 use Rattle.request_slots.specs.declared.known.Phase.TheVariants.{Idle, Left}
 use Rattle.request_slots.specs.declared.known.View.{View}
 use Rattle.request_slots.specs.declared.known.View.TheVariants.{Caller}
-use Rattle.request_slots.specs.Stages.{Station}
+use Rattle.request_slots.specs.Stages.{Station, own_word}
 use Rattle.request_slots.specs.Passes.{Lock, free, held_by, pass_of, is_in, part_of, fresh_pass}
 use Rattle.request_slots.specs.Locks.{DeskRests, LockHolds}
 use Rattle.request_slots.specs.Requests.{CallerHolds}
@@ -79,12 +79,12 @@ module _ (room : ℕ) (s : State Slot View) (r : Lawful room s) (id : ℕ) (c : 
         };
       }
       (λ k lt. dite (ℕ_discrete k c.standing.number)
-      (λ same. subst (λ (z : Station). CallerHolds room r.line (part_of lock k) (get_or s.words (k + 2) 0) (get_elem? s.homes (k + 1)) k z)
+      (λ same. subst (λ (z : Station). CallerHolds room r.line (part_of lock k) (get_or s.words (own_word k) 0) (get_elem? s.homes (k + 1)) k z)
       (ap (λ (z : ℕ). noted (r.station z) true) same ∙ (sym (put_here r.station c.standing.number st) ∙ ap (put r.station c.standing.number st) (sym same)))
-      (part_free room r.line (part_of free k) (part_of lock k) (get_or s.words (k + 2) 0) (get_elem? s.homes (k + 1)) k (r.station k) true refl refl (free_before.each_caller k lt)))
-      (λ other. subst (λ (z : Station). CallerHolds room r.line (part_of lock k) (get_or s.words (k + 2) 0) (get_elem? s.homes (k + 1)) k z)
+      (part_free room r.line (part_of free k) (part_of lock k) (get_or s.words (own_word k) 0) (get_elem? s.homes (k + 1)) k (r.station k) true refl refl (free_before.each_caller k lt)))
+      (λ other. subst (λ (z : Station). CallerHolds room r.line (part_of lock k) (get_or s.words (own_word k) 0) (get_elem? s.homes (k + 1)) k z)
       (sym (put_else r.station c.standing.number st k other))
-      (part_free room r.line (part_of free k) (part_of lock k) (get_or s.words (k + 2) 0) (get_elem? s.homes (k + 1)) k (r.station k) (r.station k).held refl refl (free_before.each_caller k lt))))
+      (part_free room r.line (part_of free k) (part_of lock k) (get_or s.words (own_word k) 0) (get_elem? s.homes (k + 1)) k (r.station k) (r.station k).held refl refl (free_before.each_caller k lt))))
       (subst (λ (z : Station × (Option Pass)). CallerKnows room r.n r.made r.line z.1 z.0 (λ m. (put r.station c.standing.number st m).held) id (locking c d.book.history))
       (λ i. (sym (put_here r.station c.standing.number st) i, sym (pass_there c.standing.number p) i)) record {
         number_made = knows.number_made;

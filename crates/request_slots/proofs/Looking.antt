@@ -21,7 +21,7 @@ use Rattle.request_slots.specs.declared.known.Phase.{Phase}
 use Rattle.request_slots.specs.declared.known.Phase.TheVariants.{Idle, Left}
 use Rattle.request_slots.specs.declared.known.View.{View}
 use Rattle.request_slots.specs.declared.known.View.TheVariants.{Caller, Bare, Spent}
-use Rattle.request_slots.specs.Stages.{Stage, unmade, idle, posted, taken, done, is_left, Station, Home}
+use Rattle.request_slots.specs.Stages.{Stage, unmade, idle, posted, taken, done, is_left, Station, Home, length_word, own_word}
 use Rattle.request_slots.specs.Passes.{Part, part_of}
 use Rattle.request_slots.specs.Locks.{HolderSits, sitter_of}
 use Rattle.request_slots.specs.Requests.{FateHolds, ServedHolds, StageHolds, CallerHolds}
@@ -91,7 +91,7 @@ phase_of_line room line part word home k seen own s (Left calls start) h same sa
 -- the same for a caller of the table
 pub phase_along : (room : ℕ) (s : State Slot View) (r : Lawful room s) (id : ℕ) (c : Known) → Knows room r.n r.made r.line r.lock r.station id (Caller c)
     → PhaseHolds c.standing.number r.line c.standing.own (r.station c.standing.number) c.standing.phase
-phase_along room s r id c knows = phase_of_line room r.line (part_of r.lock c.standing.number) (get_or s.words (c.standing.number + 2) 0) (get_elem? s.homes (c.standing.number + 1)) c.standing.number c.standing.seen c.standing.own (r.station c.standing.number) c.standing.phase
+phase_along room s r id c knows = phase_of_line room r.line (part_of r.lock c.standing.number) (get_or s.words (own_word c.standing.number) 0) (get_elem? s.homes (c.standing.number + 1)) c.standing.number c.standing.seen c.standing.own (r.station c.standing.number) c.standing.phase
     (r.each_caller c.standing.number knows.inside) knows.own_is knows.fronts.seen_begins knows.phase
 
 -- what a phase says stays true of what is between a caller's front and the line
@@ -158,7 +158,7 @@ told_knows room s r id c seen knows saw = record {
   notes = knows.notes;
 }
 
-pub looks : (room slots id : ℕ) (me : Sat) → me.0 ≡ Caller (known_of me.0) → Allows (Lawful room) slots id me 1 (λ x. x) (Looks (step slots 1 0 0 none) me)
+pub looks : (room slots id : ℕ) (me : Sat) → me.0 ≡ Caller (known_of me.0) → Allows (Lawful room) slots id me length_word (λ x. x) (Looks (step slots length_word 0 0 none) me)
 looks room slots id me is s r deep at small =
     let c : Known = known_of me.0 in
     let there : get_elem? s.views id ≡ some (Caller c) = at ∙ ap (λ (v : View). some v) is in
@@ -167,7 +167,7 @@ looks room slots id me is s r deep at small =
       Caller (with_standing c (seeing c.standing r.line)),
       keeps,
       tt,
-      view_step room s r 1 id (Caller c) (Caller (with_standing c (seeing c.standing r.line))) there refl after
+      view_step room s r length_word id (Caller c) (Caller (with_standing c (seeing c.standing r.line))) there refl after
           (holder_follows s.views r.station r.station r.lock id c (with_standing c (seeing c.standing r.line)) there refl (λ _. refl) knows.seat_is knows.pass_is r.holder_sits),
       (r.line, r.line_holds.length_is, knows.fronts.seen_begins, refl, front_of slots (sym deep ∙ r.deep) r.line_holds.no_strangers after),
     )
@@ -209,7 +209,7 @@ sees room id other v w is bare s r at apart there =
     view_change room s' mid other w Spent there (sym (ap sitter_of bare)) tt
     (holder_apart s'.views mid.station mid.station mid.lock other w Spent there (λ c e. let t : Bare (seen_in w) ≡ Caller c = sym bare ∙ e in absurd (cc t)) (λ _ _ _. refl) mid.holder_sits)
 
-pub adopts : (room slots id : ℕ) (me : Sat) → me.0 ≡ Caller (known_of me.0) → Allows (Lawful room) slots id me 1 (λ x. x) (Adopts (step slots 1 0 0 none) me)
+pub adopts : (room slots id : ℕ) (me : Sat) → me.0 ≡ Caller (known_of me.0) → Allows (Lawful room) slots id me length_word (λ x. x) (Adopts (step slots length_word 0 0 none) me)
 adopts room slots id me is s r deep at small =
     let c : Known = known_of me.0 in
     let knows = subst (Knows room r.n r.made r.line r.lock r.station id) is (r.each_seat id me.0 at) in
@@ -218,7 +218,7 @@ adopts room slots id me is s r deep at small =
       Caller (adopting c),
       keeps,
       tt,
-      view_step room s r 1 id (Caller c) (Caller (adopting c)) (at ∙ ap (λ (v : View). some v) is) refl after
+      view_step room s r length_word id (Caller c) (Caller (adopting c)) (at ∙ ap (λ (v : View). some v) is) refl after
           (holder_follows s.views r.station r.station r.lock id c (adopting c) (at ∙ ap (λ (v : View). some v) is) refl (λ _. refl) knows.seat_is knows.pass_is r.holder_sits),
       (both.0, both.1, refl, front_of slots (sym deep ∙ r.deep) r.line_holds.no_strangers after),
     )

@@ -16,7 +16,7 @@ use Rattle.request_slots.specs.declared.desk.Desk.{Desk}
 use Rattle.request_slots.specs.declared.known.Pass.{Pass}
 use Rattle.request_slots.specs.declared.known.View.{View}
 use Rattle.request_slots.specs.declared.known.View.TheVariants.{Maker, Newcomer, Caller, Bare, Spent}
-use Rattle.request_slots.specs.Stages.{Stage, unmade, idle, posted, taken, done, Station, Home}
+use Rattle.request_slots.specs.Stages.{Stage, unmade, idle, posted, taken, done, Station, Home, length_word, own_word}
 use Rattle.request_slots.specs.Passes.{Lock, free, held_by, pass_of, Part, part_of}
 use Rattle.request_slots.specs.Locks.{MadeSit}
 use Rattle.request_slots.specs.Requests.{StageHolds, request_at, CallerHolds}
@@ -52,21 +52,21 @@ first_knows : (room n j : ℕ) (v : View) → get_elem? (Maker room 0 ∷ []) j 
 first_knows room n zero v e = subst (Knows room n 0 [] free (λ _. blank) 0) (some-injective (Maker room 0) v e) (refl, refl, refl)
 first_knows room n (suc j) v e = absurd (some-ne-none v (sym e))
 
-pub opens : (room n : ℕ) (words : List ℕ) (slots : List Slot) (d : Box Desk) → words ≡ replicate (n + 2) 0 → slots ≡ Kept d ∷ replicate n Nothing → d.value.book.room ≡ room → d.value.book.history ≡ [] → IsSpare (n + 1) d.value
+pub opens : (room n : ℕ) (words : List ℕ) (slots : List Slot) (d : Box Desk) → words ≡ replicate (own_word n) 0 → slots ≡ Kept d ∷ replicate n Nothing → d.value.book.room ≡ room → d.value.book.history ≡ [] → IsSpare (n + 1) d.value
     → Lawful room (opening words slots (Maker room 0))
 opens room n words slots d words_are slots_are room_is no_entries spare =
     let request_spaces = spare.request_spaces in let outcome_spaces = spare.outcome_spaces in
-    let word : (i : ℕ) → get_or words i 0 ≡ 0 = λ i. ap (λ l. get_or l i 0) words_are ∙ all_same (n + 2) i 0 in
+    let word : (i : ℕ) → get_or words i 0 ≡ 0 = λ i. ap (λ l. get_or l i 0) words_are ∙ all_same (own_word n) i 0 in
     record {
       n = n;
       made = 0;
       line = [];
       lock = free;
       station = λ _. blank;
-      wide = ap length words_are ∙ length-replicate (n + 2) 0;
+      wide = ap length words_are ∙ length-replicate (own_word n) 0;
       deep = length-map slots (λ (x : Slot). some x) ∙ (ap length slots_are ∙ (ap suc (length-replicate n Nothing) ∙ sym (add-one n)));
       not_made = λ _ _. record { stage_is = refl; not_held = refl };
-      line_holds = record { length_is = word 1; no_strangers = λ _ _. refl };
+      line_holds = record { length_is = word length_word; no_strangers = λ _ _. refl };
       lock_holds = record {
         word_is = word 0;
         desk = d;
@@ -77,7 +77,7 @@ opens room n words slots d words_are slots_are room_is no_entries spare =
       sit_apart = seats_apart room n 0 [] free (λ _. blank) (Maker room 0 ∷ []) (first_knows room n);
       made_sit = λ k lt. absurd (omega arith);
       each_caller = λ k lt. record {
-        word_is = word (k + 2);
+        word_is = word (own_word k);
         request_is = refl;
         stage_holds = record {
           home_is = ap (λ l. get_elem? (map some l) (k + 1)) slots_are ∙ (ap (λ (z : ℕ). get_elem? (map some (Kept d ∷ replicate n Nothing)) z) (add-one k) ∙ all_vacant n k Nothing lt);
@@ -187,10 +187,10 @@ makes room id k s r at =
       sit_apart = seats_apart room r.n (k + 1) r.line r.lock (put r.station k st) (before ++ Newcomer room k ∷ []) seats;
       made_sit = made_sit_makes room s r id k at;
       each_caller = λ i lt. dite (ℕ_discrete i k)
-          (λ same. subst (λ (z : ℕ). CallerHolds room r.line (part_of r.lock z) (get_or s.words (z + 2) 0) (get_elem? s.homes (z + 1)) z (put r.station k st z)) (sym same)
-          (subst (λ (z : Station). CallerHolds room r.line (part_of r.lock k) (get_or s.words (k + 2) 0) (get_elem? s.homes (k + 1)) k z) (sym (put_here r.station k st))
-          (caller_sits room r.line (part_of r.lock k) (get_or s.words (k + 2) 0) (get_elem? s.homes (k + 1)) k (r.station k) (length before) (r.each_caller k (subst (λ (z : ℕ). z < r.n) same lt)))))
-          (λ other. subst (λ (z : Station). CallerHolds room r.line (part_of r.lock i) (get_or s.words (i + 2) 0) (get_elem? s.homes (i + 1)) i z) (sym (put_else r.station k st i other)) (r.each_caller i lt));
+          (λ same. subst (λ (z : ℕ). CallerHolds room r.line (part_of r.lock z) (get_or s.words (own_word z) 0) (get_elem? s.homes (z + 1)) z (put r.station k st z)) (sym same)
+          (subst (λ (z : Station). CallerHolds room r.line (part_of r.lock k) (get_or s.words (own_word k) 0) (get_elem? s.homes (k + 1)) k z) (sym (put_here r.station k st))
+          (caller_sits room r.line (part_of r.lock k) (get_or s.words (own_word k) 0) (get_elem? s.homes (k + 1)) k (r.station k) (length before) (r.each_caller k (subst (λ (z : ℕ). z < r.n) same lt)))))
+          (λ other. subst (λ (z : Station). CallerHolds room r.line (part_of r.lock i) (get_or s.words (own_word i) 0) (get_elem? s.homes (i + 1)) i z) (sym (put_else r.station k st i other)) (r.each_caller i lt));
       each_seat = seats;
     }
 
@@ -207,10 +207,10 @@ no_pass_unheld room s r k free is e = refl
 no_pass_unheld room s r k (held_by q p) is e = pass_elsewhere q k p (λ same. unmade_apart room s r q k p is e (sym same))
 
 -- a new caller takes its slot out
-pub arrives : (machine : Machine) (key slots id room k : ℕ) (me : Sat) → me ≡ (Newcomer room k, []) → k + 1 < slots → Allows (Lawful key) slots id me (k + 2) (λ _. 1) (λ _. Arrives machine (step slots (k + 2) 1 0 none) me 1)
-arrives machine key slots id room k me is near = subst (λ (m : Sat). Allows (Lawful key) slots id m (k + 2) (λ _. 1) (λ _. Arrives machine (step slots (k + 2) 1 0 none) m 1)) (sym is) go
+pub arrives : (machine : Machine) (key slots id room k : ℕ) (me : Sat) → me ≡ (Newcomer room k, []) → k + 1 < slots → Allows (Lawful key) slots id me (own_word k) (λ _. 1) (λ _. Arrives machine (step slots (own_word k) 1 0 none) me 1)
+arrives machine key slots id room k me is near = subst (λ (m : Sat). Allows (Lawful key) slots id m (own_word k) (λ _. 1) (λ _. Arrives machine (step slots (own_word k) 1 0 none) m 1)) (sym is) go
   where
-    go : Allows (Lawful key) slots id (Newcomer room k, []) (k + 2) (λ _. 1) (λ _. Arrives machine (step slots (k + 2) 1 0 none) (Newcomer room k, []) 1)
+    go : Allows (Lawful key) slots id (Newcomer room k, []) (own_word k) (λ _. 1) (λ _. Arrives machine (step slots (own_word k) 1 0 none) (Newcomer room k, []) 1)
     go s r deep at small =
         let know = r.each_seat id (Newcomer room k) at in
         let sized : slots ≡ r.n + 1 = sym deep ∙ r.deep in

@@ -1,6 +1,6 @@
 -- The seat of a caller after a step, and the words that it may step on.
 -- `reseated` gives the invariant of a seat after a step from what changed, `all_new_at` that the seats of a new table are of new callers.
-use Rattle.std.proofs.Common.{◌≡◌, ℕ, zero, suc, ◌+◌, ◌<◌, ◌≤◌, Bool, not, List, [], ◌∷◌, length, map, refl, sym, ap, ◌∙◌, subst, arith}
+use Rattle.std.proofs.Common.{◌≡◌, ℕ, zero, suc, ◌+◌, ◌*◌, ◌<◌, ◌≤◌, Bool, not, List, [], ◌∷◌, length, map, refl, sym, ap, ◌∙◌, subst, arith}
 use Rattle.std.specs.List.{All}
 use Rattle.std.proofs.lemmas.List.Elements.{All-append}
 use mathlib.Core.List.{map-append}
@@ -8,6 +8,7 @@ use Rattle.atomic_table.specs.Seated.{TableId}
 use Rattle.atomic_table.specs.declared.shared.Seat as token
 use Rattle.call_history.specs.Callers.{caller_limit}
 use Rattle.call_history.specs.Fits.{Fate, StandsAt, CameBack}
+use Rattle.request_slots.specs.Stages.{length_word, own_word}
 use Rattle.request_slots.specs.declared.desk.Slot.{Slot}
 use Rattle.request_slots.specs.declared.known.Known.{Known}
 use Rattle.request_slots.specs.declared.known.Phase.TheVariants.{Idle}
@@ -18,11 +19,11 @@ use Rattle.request_slots.specs.Changes.{Collected}
 use Rattle.request_slots.specs.Views.{untold, known_of, pass_in}
 use Rattle.request_slots.specs.Seating.{hand_of, IsMarked, IsOrderly, IsSeated, IsNewSeatAt}
 
-pub caller_word : (z y : TableId) (k : ℕ) → z ≡ y → z.words ≡ z.slots + 1 → k + 1 < z.slots → k + 2 < y.words
-caller_word z y k same wide inside = subst (λ (t : TableId). k + 2 < t.words) same (omega arith)
+pub caller_word : (z y : TableId) (k : ℕ) → z ≡ y → z.words ≡ 8 * z.slots + 8 → k + 1 < z.slots → own_word k < y.words
+caller_word z y k same wide inside = subst (λ (t : TableId). own_word k < t.words) same (omega arith)
 
-pub first_word : (z y : TableId) (k : ℕ) → z ≡ y → z.words ≡ z.slots + 1 → k + 1 < z.slots → 1 < y.words
-first_word z y k same wide inside = subst (λ (t : TableId). 1 < t.words) same (omega arith)
+pub first_word : (z y : TableId) (k : ℕ) → z ≡ y → z.words ≡ 8 * z.slots + 8 → k + 1 < z.slots → length_word < y.words
+first_word z y k same wide inside = subst (λ (t : TableId). length_word < t.words) same (omega arith)
 
 -- a seat is at the table that its caller's machine names
 pub sits_at : {seat : token.Seat Slot View} {number : ℕ} {idle : Bool} {marks : List Bool} {c : Known} {y z : TableId} → IsSeated seat number idle marks → known_of seat.me.0 ≡ c → c.standing.machine ≡ z → y ≡ z → seat.table_id ≡ y
@@ -43,7 +44,7 @@ reseated old new number idle idle' marks marks' c seated same is hand marked mac
   idle_is = idle_is ∙ ap (λ (v : View). not (left_in (known_of v).standing.phase)) (sym is);
   hand_is = hand ∙ ap (λ (v : View). hand_of marks' (known_of v)) (sym is);
   marked = subst (λ (v : View). IsMarked marks' (pass_in (known_of v)).taken) (sym is) marked;
-  wide = subst (λ (t : TableId). t.words ≡ t.slots + 1) (sym same) seated.wide;
+  wide = subst (λ (t : TableId). t.words ≡ 8 * t.slots + 8) (sym same) seated.wide;
   inside = subst (λ (t : TableId). number + 1 < t.slots) (sym same) seated.inside;
   few = subst (λ (t : TableId). t.slots ≤ 65) (sym same) seated.few;
   orderly = subst (λ (v : View). IsOrderly (pass_in (known_of v))) (sym is) orderly;

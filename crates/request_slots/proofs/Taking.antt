@@ -19,7 +19,7 @@ use Rattle.request_slots.specs.declared.known.Pass.{Pass}
 use Rattle.request_slots.specs.declared.known.Known.{Known}
 use Rattle.request_slots.specs.declared.known.View.{View}
 use Rattle.request_slots.specs.declared.known.View.TheVariants.{Caller}
-use Rattle.request_slots.specs.Stages.{Stage, unmade, idle, posted, taken, done, code, is_left, Station}
+use Rattle.request_slots.specs.Stages.{Stage, unmade, idle, posted, taken, done, code, is_left, Station, own_word}
 use Rattle.request_slots.specs.Passes.{held_by, is_in, Part, part_of, takes_on, tries}
 use Rattle.request_slots.specs.Requests.{StageHolds, ServedHolds, request_at}
 use Rattle.request_slots.specs.Lawful.{Knows, Lawful}
@@ -94,7 +94,7 @@ module _ (room : ℕ) (s : State Slot View) (r : Lawful room s) (id : ℕ) (c : 
       (λ (new : i ≡ c.standing.number). other (sym new)) (is_in-push p.tried i c.standing.number t)))
 
   -- a try that found no request
-  miss_keeps : (i : ℕ) → i < r.n → is_in p.tried i ≡ false → get_or s.words (i + 2) 0 ≢ 2 → Lawful room (seen_by s (i + 2) id (Caller (passing c (tries p i))))
+  miss_keeps : (i : ℕ) → i < r.n → is_in p.tried i ≡ false → get_or s.words (own_word i) 0 ≢ 2 → Lawful room (seen_by s (own_word i) id (Caller (passing c (tries p i))))
   miss_keeps i near untried miss =
       let p' : Pass = tries p i in
       let pass = holds_pass room s r id c there p has in
@@ -105,7 +105,7 @@ module _ (room : ℕ) (s : State Slot View) (r : Lawful room s) (id : ℕ) (c : 
       (λ t e. ⊎_elim (λ (old : is_in p.tried c.standing.number ≡ true). knows.settled.tried p has old e)
       (λ (new : i ≡ c.standing.number). miss ((r.each_caller i near).word_is ∙ ap code (ap (λ (z : ℕ). (r.station z).stage) new ∙ e))) (is_in-push p.tried i c.standing.number t)))
       (others_stay room s r id c there p has r.line p' r.station (begins_self r.line) abide) r.each_seat in
-      subst (λ (ws : List ℕ). Lawful room record { words = ws; homes = s.homes; views = set s.views id (Caller (passing c p')) }) (sym (set-get_or s.words (i + 2) 0)) record {
+      subst (λ (ws : List ℕ). Lawful room record { words = ws; homes = s.homes; views = set s.views id (Caller (passing c p')) }) (sym (set-get_or s.words (own_word i) 0)) record {
         n = r.n;
         made = r.made;
         line = r.line;
@@ -135,9 +135,9 @@ module _ (room : ℕ) (s : State Slot View) (r : Lawful room s) (id : ℕ) (c : 
       }
 
 pub takes_request : (room slots id i : ℕ) (me : Sat) → me.0 ≡ Caller (known_of me.0) → (known_of me.0).pass ≡ Some (pass_in (known_of me.0)) → i + 1 < slots → is_in (pass_in (known_of me.0)).tried i ≡ false
-    → Allows (Lawful room) slots id me (i + 2) (λ x. either (eqb x 2) 3 x) (Takes (step slots (i + 2) 2 3 none) me)
+    → Allows (Lawful room) slots id me (own_word i) (λ x. either (eqb x 2) 3 x) (Takes (step slots (own_word i) 2 3 none) me)
 takes_request room slots id i me is has near untried s r deep at small =
-    let c : Known = known_of me.0 in let p : Pass = pass_in c in let x : ℕ = get_or s.words (i + 2) 0 in
+    let c : Known = known_of me.0 in let p : Pass = pass_in c in let x : ℕ = get_or s.words (own_word i) 0 in
     let there : get_elem? s.views id ≡ some (Caller c) = at ∙ ap (λ (v : View). some v) is in
     let sized : slots ≡ r.n + 1 = sym deep ∙ r.deep in
     let inside : i < r.n = omega arith in
@@ -148,7 +148,7 @@ takes_request room slots id i me is has near untried s r deep at small =
       Caller (passing c (takes_on p i left.call)),
       takes (i + 1) (Asked left.call),
       left.home_is,
-      subst (λ b. Lawful room (stepped s (i + 2) (either b 3 x) id me.1 (Caller (passing c (takes_on p i left.call))) (takes (i + 1) (Asked left.call)))) (sym (eq-eqb x 2 hit))
+      subst (λ b. Lawful room (stepped s (own_word i) (either b 3 x) id me.1 (Caller (passing c (takes_on p i left.call))) (takes (i + 1) (Asked left.call)))) (sym (eq-eqb x 2 hit))
           (take_keeps room s r id c there p has i left.call inside untried at_post left.calls_are),
       λ j e. let same : i ≡ j = omega arith in
           ((λ _. (left.call, ap (λ (z : ℕ). Caller (passing c (takes_on p z left.call))) same, ap (λ (z : ℕ). let l : List (ℕ × Slot) = (z + 1, Asked left.call) ∷ me.1 in l) same)), λ miss. absurd (miss hit)),
@@ -157,15 +157,15 @@ takes_request room slots id i me is has near untried s r deep at small =
       Caller (passing c (tries p i)),
       keeps,
       tt,
-      subst (λ b. Lawful room (stepped s (i + 2) (either b 3 x) id me.1 (Caller (passing c (tries p i))) keeps)) (sym (ne_eqb x 2 miss)) (miss_keeps room s r id c there p has i inside untried miss),
+      subst (λ b. Lawful room (stepped s (own_word i) (either b 3 x) id me.1 (Caller (passing c (tries p i))) keeps)) (sym (ne_eqb x 2 miss)) (miss_keeps room s r id c there p has i inside untried miss),
       λ j e. let same : i ≡ j = omega arith in ((λ hit. absurd (miss hit)), λ _. ap (λ (z : ℕ). let m : Sat = (Caller (passing c (tries p z)), me.1) in m) same),
     ))
 
 -- a look at the word first
 pub skips_request : (room slots id i : ℕ) (me : Sat) → me.0 ≡ Caller (known_of me.0) → (known_of me.0).pass ≡ Some (pass_in (known_of me.0)) → i + 1 < slots → is_in (pass_in (known_of me.0)).tried i ≡ false
-    → Allows (Lawful room) slots id me (i + 2) (λ x. x) (Skips (step slots (i + 2) 0 0 none) me)
+    → Allows (Lawful room) slots id me (own_word i) (λ x. x) (Skips (step slots (own_word i) 0 0 none) me)
 skips_request room slots id i me is has near untried s r deep at small =
-    let c : Known = known_of me.0 in let p : Pass = pass_in c in let x : ℕ = get_or s.words (i + 2) 0 in
+    let c : Known = known_of me.0 in let p : Pass = pass_in c in let x : ℕ = get_or s.words (own_word i) 0 in
     let there : get_elem? s.views id ≡ some (Caller c) = at ∙ ap (λ (v : View). some v) is in
     let sized : slots ≡ r.n + 1 = sym deep ∙ r.deep in
     let inside : i < r.n = omega arith in
@@ -174,7 +174,7 @@ skips_request room slots id i me is has near untried s r deep at small =
       me.0,
       keeps,
       tt,
-      view_step room s r (i + 2) id me.0 me.0 at refl (r.each_seat id me.0 at) (subst (λ vs. HolderSits vs r.station r.lock) (sym (set_again s.views id me.0 at)) r.holder_sits),
+      view_step room s r (own_word i) id me.0 me.0 at refl (r.each_seat id me.0 at) (subst (λ vs. HolderSits vs r.station r.lock) (sym (set_again s.views id me.0 at)) r.holder_sits),
       λ j e. ((λ _. refl), λ miss. absurd (miss hit)),
     ))
     (λ miss. (

@@ -13,7 +13,7 @@ use Rattle.request_slots.specs.declared.known.Pass.{Pass}
 use Rattle.request_slots.specs.declared.known.Known.{Known}
 use Rattle.request_slots.specs.declared.known.View.{View}
 use Rattle.request_slots.specs.declared.known.View.TheVariants.{Caller}
-use Rattle.request_slots.specs.Stages.{Stage, unmade, idle, posted, taken, done, is_left, Station}
+use Rattle.request_slots.specs.Stages.{Stage, unmade, idle, posted, taken, done, is_left, Station, own_word}
 use Rattle.request_slots.specs.Passes.{held_by, Part, part_of, strikes}
 use Rattle.request_slots.specs.Requests.{StageHolds, FateHolds, ServedHolds, request_at}
 use Rattle.request_slots.specs.Lawful.{Knows, Lawful}
@@ -83,11 +83,11 @@ module _ (room : ℕ) (s : State Slot View) (r : Lawful room s) (id : ℕ) (c : 
 pub tells : (room slots id i : ℕ) (calls : List Call) (old me : Sat) (o : Outcome) → me ≡ (old.0, (i + 1, Told o) ∷ rest old.1) → old.0 ≡ Caller (known_of old.0)
     → (known_of old.0).pass ≡ Some (pass_in (known_of old.0)) → i + 1 < slots → (pass_in (known_of old.0)).committed ≡ true → request_by i (pass_in (known_of old.0)).taken ≡ Some calls
     → outcome_by i (pass_in (known_of old.0)).asked (pass_in (known_of old.0)).outcomes ≡ Some o
-    → Allows (Lawful room) slots id me (i + 2) (λ _. 4) (λ _. Tells (step slots (i + 2) 4 0 none) me 4)
+    → Allows (Lawful room) slots id me (own_word i) (λ _. 4) (λ _. Tells (step slots (own_word i) 4 0 none) me 4)
 tells room slots id i calls old me o put is has near over asks told =
-    subst (λ (m : Sat). Allows (Lawful room) slots id m (i + 2) (λ _. 4) (λ _. Tells (step slots (i + 2) 4 0 none) m 4)) (sym put) go
+    subst (λ (m : Sat). Allows (Lawful room) slots id m (own_word i) (λ _. 4) (λ _. Tells (step slots (own_word i) 4 0 none) m 4)) (sym put) go
   where
-    go : Allows (Lawful room) slots id (old.0, (i + 1, Told o) ∷ rest old.1) (i + 2) (λ _. 4) (λ _. Tells (step slots (i + 2) 4 0 none) (old.0, (i + 1, Told o) ∷ rest old.1) 4)
+    go : Allows (Lawful room) slots id (old.0, (i + 1, Told o) ∷ rest old.1) (own_word i) (λ _. 4) (λ _. Tells (step slots (own_word i) 4 0 none) (old.0, (i + 1, Told o) ∷ rest old.1) 4)
     go s r deep at small =
         let c : Known = known_of old.0 in
         let there : get_elem? s.views id ≡ some (Caller c) = at ∙ ap (λ (v : View). some v) is in

@@ -19,7 +19,7 @@ use Rattle.request_slots.specs.declared.known.Phase.{Phase}
 use Rattle.request_slots.specs.declared.known.Phase.TheVariants.{Idle, Left}
 use Rattle.request_slots.specs.declared.known.View.{View}
 use Rattle.request_slots.specs.declared.known.View.TheVariants.{Caller}
-use Rattle.request_slots.specs.Stages.{Stage, unmade, idle, posted, taken, done, is_left, Station}
+use Rattle.request_slots.specs.Stages.{Stage, unmade, idle, posted, taken, done, is_left, Station, own_word}
 use Rattle.request_slots.specs.Passes.{free, held_by, pass_of, is_in, part_of}
 use Rattle.request_slots.specs.Locks.{DeskRests}
 use Rattle.request_slots.specs.Requests.{request_at}
@@ -101,7 +101,7 @@ module _ (room : ℕ) (s : State Slot View) (r : Lawful room s) (id : ℕ) (c : 
       let nothing : (k : ℕ) → request_by k p.taken ≡ None = λ k. ap (request_by k) all_told in
       lock_step room s r 0 (some (Kept d)) r.station free id (Caller c) (Caller (unlocking c p)) there refl (λ _. refl) r.not_made
       record { word_is = refl; desk = d; home_is = refl; rests = subst (λ l. DeskRests room r.n l d.value) line_is rests }
-      (λ k lt. part_free room r.line (part_of (held_by c.standing.number p) k) (part_of free k) (get_or s.words (k + 2) 0) (get_elem? s.homes (k + 1)) k (r.station k) (r.station k).held (nothing k) refl (r'.each_caller k lt))
+      (λ k lt. part_free room r.line (part_of (held_by c.standing.number p) k) (part_of free k) (get_or s.words (own_word k) 0) (get_elem? s.homes (k + 1)) k (r.station k) (r.station k).held (nothing k) refl (r'.each_caller k lt))
       (unlock_knows p has all_told)
       (others_know room r.n r.made r.line r.line r.lock free r.station r.station c.standing.number id knows.seat_is (begins_self r.line)
       (λ i other. sym (ap (λ l. pass_of l i) locked ∙ pass_elsewhere c.standing.number i p other)) (λ i _. abides_self (r.station i)) (λ m e. e)) tt

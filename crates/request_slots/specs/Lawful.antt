@@ -70,7 +70,7 @@ pub record Lawful (room : ℕ) (s : State Slot View) : Type 0 where
   pub line : List Entry
   pub lock : Lock
   pub station : ℕ → Station
-  pub wide : length s.words ≡ n + 2
+  pub wide : length s.words ≡ own_word n
   pub deep : length s.homes ≡ n + 1
   pub not_made : (k : ℕ) → made ≤ k → IsNotMade (station k)
   -- 2. The length word is the length of the line, whose entries are of callers of the table (Fronts).

@@ -1,6 +1,6 @@
 -- The seat of a caller: what each `Seat` keeps, and which slots are in its hand, and in which order.
 -- `IsSeated` is what is always so of a seat.
-use Rattle.std.specs.Prelude.{◌≡◌, ℕ, zero, suc, ◌+◌, ◌<◌, ◌≤◌, Bool, true, false, not, List, [], ◌∷◌, ◌++◌, length, get_or, Option, Some, None, is_some}
+use Rattle.std.specs.Prelude.{◌≡◌, ℕ, zero, suc, ◌+◌, ◌*◌, ◌<◌, ◌≤◌, Bool, true, false, not, List, [], ◌∷◌, ◌++◌, length, get_or, Option, Some, None, is_some}
 use Rattle.atomic_table.specs.Table.{turned}
 use Rattle.atomic_table.specs.declared.shared.Seat as token
 use Rattle.call_history.specs.declared.request.Request.{Request}
@@ -69,7 +69,7 @@ pub record IsSeated (seat : token.Seat Slot View) (number : ℕ) (idle : Bool) (
   pub idle_is : idle ≡ not (left_in (known_of seat.me.0).standing.phase)
   pub hand_is : seat.me.1 ≡ hand_of marks (known_of seat.me.0)
   pub marked : IsMarked marks (pass_in (known_of seat.me.0)).taken
-  pub wide : seat.table_id.words ≡ seat.table_id.slots + 1
+  pub wide : seat.table_id.words ≡ 8 * seat.table_id.slots + 8
   pub inside : number + 1 < seat.table_id.slots
   pub few : seat.table_id.slots ≤ 65
   pub orderly : IsOrderly (pass_in (known_of seat.me.0))

@@ -1,21 +1,22 @@
 -- Where each caller stands, and where each word and slot is: the words that the rule is written in.
 -- `code` is what the caller's word says at a stage. A `Station` is what the rule keeps of a caller beside its seat.
-use Rattle.std.specs.Prelude.{ℕ, ◌+◌, Bool, true, false, List}
+use Rattle.std.specs.Prelude.{ℕ, ◌+◌, ◌*◌, Bool, true, false, List}
 use mathlib.Core.Option.{some, none}
 use mathlib.Core.Option as maybe
 use Rattle.cvl_text.specs.declared.call.Call.{Call}
 use Rattle.call_history.specs.declared.entry.Entry.{Entry}
 use Rattle.request_slots.specs.declared.desk.Slot.{Slot}
 
--- the words of the lock, of the length and of a caller, and the slots of the desk and of a caller
+-- the words of the lock, of the length and of a caller, each eight words behind the one before, and the slots of the desk and of
+-- a caller
 abbrev pub lock_word : ℕ
 lock_word = 0
 
 abbrev pub length_word : ℕ
-length_word = 1
+length_word = 8
 
 abbrev pub own_word : ℕ → ℕ
-own_word k = k + 2
+own_word k = 8 * k + 16
 
 abbrev pub desk_slot : ℕ
 desk_slot = 0

@@ -1,4 +1,4 @@
-ghost use Rattle.std.specs.Prelude.{◌≡◌, ◌+◌, ◌<◌, ◌≤◌, [], ◌∷◌, All, map, IfSome, IfNone, IfOk, None, replicate};
+ghost use Rattle.std.specs.Prelude.{◌≡◌, ◌+◌, ◌*◌, ◌<◌, ◌≤◌, [], ◌∷◌, All, map, IfSome, IfNone, IfOk, None, replicate};
 ghost use Rattle.atomic_table.specs.Seated.{TableId};
 ghost use Rattle.request_slots.specs.declared.desk.Slot.TheVariants.{Nothing, Kept};
 ghost use Rattle.request_slots.specs.declared.known.View.TheVariants.{Maker};
@@ -58,7 +58,7 @@ impl Slots {
     {
         let room = desk.book.room();
         let mut seats = Vec::with_capacity(alloc, callers)?;
-        // No word stands behind that of the last caller. The lock is free and the length 0, which is the number of UNMADE too.
+        // Up to where the word of one caller more would be. The lock is free and the length 0, which is the number of UNMADE too.
         let words = Vec::from_elem(alloc, UNMADE, word_at(callers))?;
         let homes = homes_of(alloc, callers, desk)?;
         let Ok((table, mut maker)) = Table::new(alloc, words.as_slice(), homes, &room) else {
@@ -90,7 +90,7 @@ impl Slots {
     ) -> Seat
         requires place { maker.old.table_id ≡ self.now }
         requires maker { maker.old.me ≡ (Maker room number, []) }
-        requires size { (number + 1 < self.now.slots) × (self.now.slots ≤ 65) × (self.now.words ≡ self.now.slots + 1) }
+        requires size { (number + 1 < self.now.slots) × (self.now.slots ≤ 65) × (self.now.words ≡ 8 * self.now.slots + 8) }
         ensures place { maker.new.table_id ≡ self.now }
         ensures maker { maker.new.me ≡ (Maker room (number + 1), []) }
         ensures seat { result ≡ untold (newcomer self.now room number) }
@@ -107,7 +107,7 @@ impl Slots {
         requires machine { P.machine ≡ self.now }
         requires place { maker.old.table_id ≡ self.now }
         requires maker { maker.old.me ≡ (Maker room number, []) }
-        requires size { (number + 1 < self.now.slots) × (self.now.slots ≤ 65) × (self.now.words ≡ self.now.slots + 1) }
+        requires size { (number + 1 < self.now.slots) × (self.now.slots ≤ 65) × (self.now.words ≡ 8 * self.now.slots + 8) }
         ensures place { maker.new.table_id ≡ self.now }
         ensures maker { maker.new.me ≡ (Maker room (number + 1), []) }
         ensures seat { result ≡ untold (newcomer P.machine room number) }

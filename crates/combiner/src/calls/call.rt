@@ -39,12 +39,18 @@ impl Shared {
         ensures back { IfErr result (λ refused. refused.0 ≡ call) }
         ensures record_kept { OnErr result (caller.new.own ≡ caller.old.own) }
     {
-        let mut call = call;
         if caller.leads {
             let seat = &mut caller.seat;
-            match run_own(&Sequential, alloc, &self.slots, seat, self.callers, call) {
-                Ok(ran) => return ran,
-                Err(back) => call = back,
+            if let Some(desk) = self.slots.step_lock(seat) {
+                return run_own(
+                    &Sequential,
+                    alloc,
+                    &self.slots,
+                    seat,
+                    self.callers,
+                    desk,
+                    call,
+                );
             }
         }
         caller.leads = false;

@@ -2,6 +2,7 @@ use Rattle.std.proofs.Common.{◌≡◌, ℕ, ◌+◌, ◌<◌, ◌∙◌, sym, 
 use Rattle.atomic_table.specs.Seated.{TableId}
 use Rattle.atomic_table.specs.Table.{Allows, step}
 use Rattle.call_history.specs.Fits.{Fits}
+use Rattle.request_slots.specs.Stages.{length_word}
 use Rattle.request_slots.specs.declared.known.Known.{Known}
 use mathlib.Core.Option.{none}
 use Rattle.request_slots.specs.Passes.{is_in}
@@ -20,7 +21,7 @@ store-requires g c = let seated = c.seat.invariant in
     let desk : HasDesk (known_of c.seat.inside.seat.me.0) = subst HasDesk (sym known) c.requires.desk in (
       same,
       first_word _ _ _ same seated.wide seated.inside,
-      subst (λ (n : ℕ). Allows (Lawful c.self.inside.table.shared.key) c.self.inside.table.shared.table_id.slots c.seat.inside.seat.id c.seat.inside.seat.me 1 (λ _. n) (λ _. Commits g.B.Batch.line g.B.Batch.outcomes (step c.self.inside.table.shared.table_id.slots 1 n 0 none) c.seat.inside.seat.me n))
+      subst (λ (n : ℕ). Allows (Lawful c.self.inside.table.shared.key) c.self.inside.table.shared.table_id.slots c.seat.inside.seat.id c.seat.inside.seat.me length_word (λ _. n) (λ _. Commits g.B.Batch.line g.B.Batch.outcomes (step c.self.inside.table.shared.table_id.slots length_word n 0 none) c.seat.inside.seat.me n))
           (ap length (sym c.requires.batch.0) ∙ sym c.len-length.ensures.len)
           (commits_line c.self.inside.table.shared.key c.self.inside.table.shared.table_id.slots c.seat.inside.seat.id c.seat.inside.seat.me g.B.Batch.line g.B.Batch.outcomes seated.is_caller desk (ap (λ (k : Known). (pass_in k).committed) known ∙ c.requires.open)
           (λ i near. ap (λ (k : Known). is_in (pass_in k).tried i) known ∙ c.requires.tried i (subst (λ (n : ℕ). i + 1 < n) (ap (λ (z : TableId). z.slots) c.self.view_is) near))

@@ -1,5 +1,6 @@
 use Rattle.std.proofs.Common.{◌≡◌, ℕ, Some, ◌∙◌, sym, ap, subst, length}
 use Rattle.atomic_table.specs.Table.{Allows, step}
+use Rattle.request_slots.specs.Stages.{length_word}
 use Rattle.request_slots.specs.declared.known.Known.{Known}
 use mathlib.Core.Option.{none}
 use Rattle.request_slots.specs.Passes.{fresh_pass}
@@ -17,7 +18,7 @@ store-requires g c = let seated = c.seat.invariant in
     let known : known_of c.seat.inside.seat.me.0 ≡ c.args.seat.now = c.seat.view_is in (
       same,
       first_word _ _ _ same seated.wide seated.inside,
-      subst (λ (n : ℕ). Allows (Lawful c.self.inside.table.shared.key) c.self.inside.table.shared.table_id.slots c.seat.inside.seat.id c.seat.inside.seat.me 1 (λ _. n) (λ _. Enters g.B.Batch.line (step c.self.inside.table.shared.table_id.slots 1 n 0 none) c.seat.inside.seat.me n))
+      subst (λ (n : ℕ). Allows (Lawful c.self.inside.table.shared.key) c.self.inside.table.shared.table_id.slots c.seat.inside.seat.id c.seat.inside.seat.me length_word (λ _. n) (λ _. Enters g.B.Batch.line (step c.self.inside.table.shared.table_id.slots length_word n 0 none) c.seat.inside.seat.me n))
           (ap length (sym c.requires.line) ∙ sym c.len-length.ensures.len)
           (enters_line c.self.inside.table.shared.key c.self.inside.table.shared.table_id.slots c.seat.inside.seat.id c.seat.inside.seat.me g.B.Batch.line seated.is_caller
           (subst (λ (k : Known). IsIdle k.standing) (sym known) c.requires.idle)

@@ -1,5 +1,6 @@
-use Rattle.std.proofs.Common.{rules, arith, ◌≡◌, ℕ, ◌+◌, ◌<◌, ◌≤◌, not, [], ◌∙◌, refl, sym, ap, subst}
+use Rattle.std.proofs.Common.{rules, arith, ◌≡◌, ℕ, ◌+◌, ◌*◌, ◌<◌, ◌≤◌, not, [], ◌∙◌, refl, sym, ap, subst}
 use Rattle.atomic_table.specs.Seated.{TableId}
+use Rattle.request_slots.specs.Stages.{}
 use Rattle.request_slots.specs.declared.known.View.{View}
 use Rattle.request_slots.specs.declared.known.View.TheVariants.{Caller}
 use Rattle.request_slots.specs.Standing.{Machine, callers_of, left_in, newcomer, FrontHolds}
@@ -38,7 +39,7 @@ invariant_of-result g c =
       idle_is = ap (λ (v : View). not (left_in (known_of v).standing.phase)) (sym is);
       hand_is = ap (λ m. m.1) now ∙ (sym (hand_own c.no_marks.result (untold (newcomer machine c.args.room c.args.number)) refl c.no_marks.ensures) ∙ ap (λ (v : View). hand_of c.no_marks.result (known_of v)) (sym is));
       marked = subst (λ (v : View). IsMarked c.no_marks.result (pass_in (known_of v)).taken) (sym is) c.no_marks.ensures;
-      wide = subst (λ (z : Machine). z.words ≡ z.slots + 1) place c.requires.size.2;
+      wide = subst (λ (z : Machine). z.words ≡ 8 * z.slots + 8) place c.requires.size.2;
       inside = subst (λ (z : Machine). c.args.number + 1 < z.slots) place c.requires.size.0;
       few = subst (λ (z : Machine). z.slots ≤ 65) place c.requires.size.1;
       orderly = subst (λ (v : View). IsOrderly (pass_in (known_of v))) (sym is) (λ _ _. refl);
