@@ -16,6 +16,7 @@ mod running;
 mod turn;
 mod wave;
 
+pub use call_history::{Outcome, Request};
 pub use plan::BATCH_LIMIT;
 pub use planning::{clashes, waves};
 pub use ran::Ran;

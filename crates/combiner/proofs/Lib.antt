@@ -4,5 +4,5 @@ mod Owning
 mod Batches
 mod PassSteps
 mod Tellings
-mod AllLists
+pub mod AllLists
 pub mod Alone

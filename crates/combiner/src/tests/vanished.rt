@@ -2,7 +2,7 @@
 
 use crate::tests::asking::{posts, serves, stands_at};
 use crate::tests::table::two;
-use crate::{Combined, Unfinished};
+use crate::{Caller, Combined, Unfinished};
 use scan_kernels::Sequential;
 use std::process::Abort;
 use std::test::Fail;
@@ -32,9 +32,10 @@ fn dropped_with_an_answer_untaken(rt: HostRuntime) -> Result<(), Fail> {
 /// The book of a caller that is dropped while it has it is lost to the others: they are busy, and none can close the machine.
 #[test]
 fn dropped_with_the_book(rt: HostRuntime) -> Result<(), Fail> {
-    let (shared, mut first, mut second) = two(rt.alloc()).ok_or("memory")?;
-    assert!(rt; shared.slots.step_lock(&mut first.seat).is_some());
-    drop(first);
+    let (shared, first, mut second) = two(rt.alloc()).ok_or("memory")?;
+    let Caller { mut seat, leads: _ } = first;
+    assert!(rt; shared.slots.step_lock(&mut seat).is_some());
+    drop(seat);
     let combined = shared.combine(&Sequential, rt.alloc(), &mut second);
     assert!(rt; matches!(&combined, Combined::Busy));
     assert!(rt; matches!(&shared.close(second), Err(Unfinished)));

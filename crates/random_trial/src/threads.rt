@@ -1,0 +1,106 @@
+//! Scripts by threads that share a machine, one for each caller.
+
+ghost use Rattle.std.specs.Prelude.{◌≡◌, All, IfSome};
+ghost use Rattle.combiner.specs.Standing.{IsIdle};
+
+use crate::replay::{Told, is_told_right};
+use crate::script::{CALLERS, Script};
+use combiner::{Caller, Shared};
+use cvl_text::Call;
+use std::alloc::Global;
+use std::sync::Wait;
+use std::thread;
+use std::thread::Threads;
+
+/// A machine for the callers of a script, and one caller more, which opens and closes it.
+fn machine(alloc: Global, room: u64) -> Option<(Shared, Vec<Caller>, Caller)>
+    ensures workers { IfSome result (λ m. All (λ c. (c.machine ≡ m.0) × IsIdle c) m.1.items) }
+    ensures last { IfSome result (λ m. (m.2.machine ≡ m.0) × IsIdle m.2) }
+{
+    let (shared, mut callers) = Shared::new(alloc, CALLERS as u64 + 1, room).ok()?;
+    let last = callers.pop()?;
+    Some((shared, callers, last))
+}
+
+/// Calls what a line says, and notes what is told. None where the line is no call, too.
+fn call_line(
+    rt: &(impl Threads + Wait + Sync),
+    alloc: Global,
+    shared: &Shared,
+    caller: &mut Caller,
+    line: &str,
+    told: &mut Vec<Told>,
+) -> Option<()>
+    requires machine { caller.old.machine ≡ shared.now }
+    requires idle { IsIdle caller.old }
+    ensures machine { caller.new.machine ≡ shared.now }
+    ensures idle { IsIdle caller.new }
+{
+    let call = Call::read(alloc, line.as_bytes()).ok()?;
+    let (place, reply) = shared.call(rt, alloc, caller, call).ok()?;
+    told.push(Told::new(alloc, caller.number() as u64, place, &reply)?)
+        .ok()?;
+    Some(())
+}
+
+/// Calls what every so manyeth of these lines says, from this one on.
+fn call_lines(
+    rt: &(impl Threads + Wait + Sync),
+    alloc: Global,
+    shared: &Shared,
+    caller: &mut Caller,
+    lines: &str,
+    first: usize,
+    every: usize,
+) -> Option<Vec<Told>>
+    requires machine { caller.old.machine ≡ shared.now }
+    requires idle { IsIdle caller.old }
+    ensures machine { caller.new.machine ≡ shared.now }
+{
+    let mut told = Vec::new(alloc);
+    for (i, line) in lines.lines().enumerate() {
+        if i % every.max(1) == first {
+            call_line(rt, alloc, shared, caller, line, &mut told)?;
+        }
+    }
+    Some(told)
+}
+
+/// Has the callers call their lines, each in a thread of its own.
+fn work<R: Threads + Wait + Sync>(
+    rt: &R,
+    alloc: Global,
+    shared: &Shared,
+    callers: Vec<Caller>,
+    lines: &str,
+) -> Option<Vec<Option<Vec<Told>>>>
+    requires { All (λ c. (c.machine ≡ shared.now) × IsIdle c) callers.items }
+{
+    thread::map_vec(
+        rt,
+        callers,
+        &|caller: Caller| -> Option<Vec<Told>>
+            requires { (caller.machine ≡ shared.now) × IsIdle caller }
+        {
+            let mut caller = caller;
+            let number = caller.number();
+            call_lines(rt, alloc, shared, &mut caller, lines, number, CALLERS)
+        },
+    )
+    .ok()
+}
+
+/// Whether what the callers are told is borne out by the machine's book.
+pub(crate) fn is_right<R: Threads + Wait + Sync>(
+    rt: &R,
+    alloc: Global,
+    script: &Script,
+) -> Option<bool> {
+    let (shared, callers, mut last) = machine(alloc, script.room)?;
+    let mut told = call_lines(rt, alloc, &shared, &mut last, &script.opening, 0, 1)?;
+    for one in work(rt, alloc, &shared, callers, &script.calls)? {
+        told.append(&mut one?).ok()?;
+    }
+    let book = shared.close(last).ok()?;
+    is_told_right(alloc, &book, &told)
+}
