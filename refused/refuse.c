@@ -1,5 +1,6 @@
 /* Refuses one growth of a program: preloaded, it counts what is allocated or grown between the lines "begin" and "end" that the
-   program writes, and refuses the one of the number in REFUSE. At the end it says on descriptor 3 how many there were. */
+   program writes, and refuses the one of the number in REFUSE. Behind "end" it says in the file of descriptor 3 how many there
+   were: not where the program ends, since one that leaves by _exit runs nothing then. */
 #define _GNU_SOURCE
 #include "growths.h"
 #include <stdio.h>
@@ -25,20 +26,22 @@ static int refuses_growth(void)
     return between && ++counted == refused;
 }
 
+static void say(void)
+{
+    char text[32];
+    int length = snprintf(text, sizeof text, "%ld\n", counted);
+    if (pwrite(3, text, (size_t)length, 0) < 0)
+        _exit(99);
+}
+
 ssize_t write(int to, const void *bytes, size_t count)
 {
-    if (count >= 3 && !memcmp(bytes, "end", 3))
+    if (between && count >= 3 && !memcmp(bytes, "end", 3)) {
         between = 0;
+        say();
+    }
     ssize_t written = real_write(to, bytes, count);
     if (count >= 5 && !memcmp(bytes, "begin", 5))
         between = 1;
     return written;
-}
-
-__attribute__((destructor)) static void say(void)
-{
-    char text[32];
-    int length = snprintf(text, sizeof text, "%ld\n", counted);
-    if (real_write(3, text, (size_t)length) < 0)
-        return;
 }
