@@ -3,7 +3,7 @@
 # came of it.
 # It runs the tests of the files refused.rt of batch_tests and of combiner that `rt test` or `./test` built, once for each growth. A
 # test fails where a refused growth comes to more than one call, but for a history that could not be reserved. The batch and the pass
-# with an empty vector must also be served once with a joined run refused and both calls answered. Status 1: something was not so;
+# with an empty vector must also be served once with a joined run refused and every call answered. Status 1: something was not so;
 # 2: the tests are not built; 3: nothing was tried, since there is no cc.
 cd "$(dirname "$0")/.." || exit 1
 for crate in batch_tests combiner; do

@@ -16,7 +16,6 @@ mod threads;
 mod writer;
 
 use chance::Chance;
-use scan_kernels::Execution;
 use script::Script;
 use std::alloc::Global;
 use std::process::ExitCode;
