@@ -2,7 +2,7 @@
 
 use crate::replay::{Told, is_told_right};
 use crate::script::{CALLERS, Script};
-use crate::texts::{memory_text, text_of};
+use crate::texts::{call_text, memory_text, text_of};
 use call_history::Book;
 use cvl_calls::step;
 use cvl_text::Call;
@@ -22,8 +22,10 @@ pub(crate) fn run_lines(
         let Ok(call) = Call::read(alloc, line.as_bytes()) else {
             return Some(false);
         };
+        let text = call_text(alloc, &call)?;
         let (place, reply) = book.run(&Sequential, alloc, caller, call).ok()?;
-        told.push(Told::new(alloc, caller, place, &reply)?).ok()?;
+        told.push(Told::new(alloc, caller, text, place, &reply)?)
+            .ok()?;
     }
     Some(true)
 }

@@ -8,6 +8,7 @@ use crate::alone::{book_of, run_lines};
 use crate::chance::Chance;
 use crate::replay::{Told, is_told_right};
 use crate::script::Script;
+use crate::texts::line_text;
 use batch_flatten::{BATCH_LIMIT, Outcome, Request, run_batch};
 use call_history::Book;
 use cvl_text::Call;
@@ -43,11 +44,13 @@ fn serve(alloc: Global, book: &mut Book, lines: &[&str], told: &mut Vec<Told>) -
         &mut outcomes,
         &mut Meter::new(),
     );
-    for (i, outcome) in outcomes.iter().enumerate() {
+    for (i, (outcome, line)) in outcomes.iter().zip(lines.iter()).enumerate() {
         let Outcome::Answered { place, reply } = outcome else {
             return Some(false);
         };
-        told.push(Told::new(alloc, i as u64, *place, reply)?).ok()?;
+        let call = line_text(alloc, line)?;
+        told.push(Told::new(alloc, i as u64, call, *place, reply)?)
+            .ok()?;
     }
     Some(ran.singles == 0)
 }

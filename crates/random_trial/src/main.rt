@@ -88,13 +88,14 @@ fn run_all<R: Alloc<A = Global> + Print + Threads + Wait + Sync>(
     Ok(ExitCode::SUCCESS)
 }
 
-/// The seed and the count that the arguments ask for.
+/// The seed and the count that the arguments ask for, those of the gate where there are none.
 fn read_arguments(rt: &HostRuntime) -> io::Result<Option<(u64, u64)>> {
     let mut arguments = env::args(rt)?;
     arguments.next();
-    let (Some(seed), Some(count), None) = (arguments.next(), arguments.next(), arguments.next())
-    else {
-        return Ok(None);
+    let (seed, count) = match (arguments.next(), arguments.next(), arguments.next()) {
+        (None, _, _) => return Ok(Some(SCRIPTS)),
+        (Some(seed), Some(count), None) => (seed, count),
+        _ => return Ok(None),
     };
     let (Ok(seed), Ok(count)) = (seed.parse(), count.parse()) else {
         return Ok(None);
@@ -103,12 +104,6 @@ fn read_arguments(rt: &HostRuntime) -> io::Result<Option<(u64, u64)>> {
 }
 
 fn main(rt: HostRuntime) -> io::Result<ExitCode> {
-    let mut arguments = env::args(&rt)?;
-    arguments.next();
-    if arguments.next().is_none() {
-        let (seed, count) = SCRIPTS;
-        return run_all(&rt, seed, count);
-    }
     let Some((seed, count)) = read_arguments(&rt)? else {
         println!(rt; "{USAGE}")?;
         return Ok(ExitCode::from(2));

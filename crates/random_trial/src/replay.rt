@@ -1,6 +1,6 @@
 //! What was told of calls beside the replay of the history that they stand in.
 
-use crate::texts::{memory_text, text_of};
+use crate::texts::{call_text, memory_text, text_of};
 use call_history::{Book, CALLER_LIMIT};
 use cvl_calls::step;
 use cvl_text::Reply;
@@ -8,22 +8,35 @@ use scan_kernels::Sequential;
 use std::alloc::Global;
 use vector_memory::Memory;
 
-/// What a caller was told of a call: its place in the history, and the text of its reply.
+/// What a caller was told of a call: its place in the history, and the texts of the call and of its reply.
 #[derive(Drop)]
 pub(crate) struct Told {
     pub caller: u64,
+    pub call: String,
     pub place: u64,
     pub reply: Vec<u8>,
 }
 
 impl Told {
-    pub fn new(alloc: Global, caller: u64, place: u64, reply: &Reply) -> Option<Told> {
+    pub fn new(
+        alloc: Global,
+        caller: u64,
+        call: String,
+        place: u64,
+        reply: &Reply,
+    ) -> Option<Told> {
         let reply = text_of(alloc, reply)?;
         Some(Told {
             caller,
+            call,
             place,
             reply,
         })
+    }
+
+    /// Whether another was told the same of the same call.
+    fn agrees(&self, other: &Told) -> bool {
+        self.caller == other.caller && self.call == other.call && self.reply == other.reply
     }
 }
 
@@ -34,7 +47,8 @@ fn replayed(alloc: Global, book: &Book) -> Option<(Vec<Told>, Vec<u8>)> {
     for place in 0..book.len() {
         let entry = book.entry(place);
         let reply = step(&Sequential, alloc, &mut memory, &entry.call).ok()?;
-        told.push(Told::new(alloc, entry.caller, place as u64, &reply)?)
+        let call = call_text(alloc, &entry.call)?;
+        told.push(Told::new(alloc, entry.caller, call, place as u64, &reply)?)
             .ok()?;
     }
     Some((told, memory_text(alloc, &memory)?))
@@ -53,7 +67,7 @@ fn is_borne_out(alloc: Global, told: &[Told], replay: &[Told]) -> Option<bool> {
         let Some(other) = replay.get(one.place as usize) else {
             return Some(false);
         };
-        if *seen || one.caller != other.caller || one.reply != other.reply {
+        if *seen || !one.agrees(other) {
             return Some(false);
         }
         *seen = true;
@@ -79,7 +93,8 @@ fn is_in_order(alloc: Global, told: &[Told]) -> Option<bool> {
     Some(true)
 }
 
-/// Whether of each entry of a book one caller was told, what the replay of the history tells, and of its own entries in their order;
+/// Whether of each entry of a book one caller was told, what the replay of the history tells of the call that it made, and of its own
+/// entries in their order;
 /// whether the book has the memory that the replay ends with, and is found right by its audit.
 pub(crate) fn is_told_right(alloc: Global, book: &Book, told: &[Told]) -> Option<bool> {
     let (replay, end) = replayed(alloc, book)?;

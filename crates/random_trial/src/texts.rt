@@ -1,8 +1,19 @@
-//! Replies and memories as texts, which are compared.
+//! Calls, replies and memories as texts, which are compared.
 
-use cvl_text::{Reply, write_value};
+use cvl_text::{Call, Reply, write_value};
 use std::alloc::Global;
 use vector_memory::Memory;
+
+/// A call with all its names, numbers and items.
+pub(crate) fn call_text(alloc: Global, call: &Call) -> Option<String> {
+    format!(in alloc; "{call:?}").ok()
+}
+
+/// The call of a line likewise. None where the line is no call, too.
+pub(crate) fn line_text(alloc: Global, line: &str) -> Option<String> {
+    let call = Call::read(alloc, line.as_bytes()).ok()?;
+    call_text(alloc, &call)
+}
 
 /// The text of a reply.
 pub(crate) fn text_of(alloc: Global, reply: &Reply) -> Option<Vec<u8>> {

@@ -5,6 +5,7 @@ ghost use Rattle.combiner.specs.Standing.{IsIdle};
 
 use crate::replay::{Told, is_told_right};
 use crate::script::{CALLERS, Script};
+use crate::texts::call_text;
 use combiner::{Caller, Shared};
 use cvl_text::Call;
 use std::alloc::Global;
@@ -37,8 +38,9 @@ fn call_line(
     ensures idle { IsIdle caller.new }
 {
     let call = Call::read(alloc, line.as_bytes()).ok()?;
+    let text = call_text(alloc, &call)?;
     let (place, reply) = shared.call(rt, alloc, caller, call).ok()?;
-    told.push(Told::new(alloc, caller.number() as u64, place, &reply)?)
+    told.push(Told::new(alloc, caller.number() as u64, text, place, &reply)?)
         .ok()?;
     Some(())
 }

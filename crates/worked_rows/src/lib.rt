@@ -14,6 +14,8 @@ mod limits;
 #[cfg(test)]
 mod lines;
 #[cfg(test)]
+mod odd_bytes;
+#[cfg(test)]
 mod program;
 #[cfg(test)]
 mod rows;
