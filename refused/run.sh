@@ -1,9 +1,9 @@
 #!/bin/sh
-# refused/run.sh: has all that the system may refuse refused, one in each run: growths of batches and passes (batches.sh), then
+# refused/run.sh: has all that the system may refuse refused, one in each run: growths of the calls of the libraries (calls.sh), then
 # growths, threads, reads and writes of the program (program.sh). Status as theirs: 1: something was not so; 2: something is not
 # built; 3: nothing was tried, since there is no cc.
 cd "$(dirname "$0")" || exit 1
-./batches.sh
+./calls.sh
 status=$?
 ./program.sh || { program=$?; [ "$status" -ne 0 ] || status=$program; }
 exit "$status"

@@ -9,4 +9,6 @@ mod calls;
 #[cfg(test)]
 mod memories;
 #[cfg(test)]
+mod refused;
+#[cfg(test)]
 mod texts;

@@ -9,4 +9,6 @@ mod kernels;
 #[cfg(test)]
 mod permutes;
 #[cfg(test)]
+mod refused;
+#[cfg(test)]
 mod segments;

@@ -1,4 +1,4 @@
-//! Passes and machines of which a growth is refused. `refused/batches.sh` runs these tests once for each growth between the lines
+//! Passes and machines of which a growth is refused. `refused/calls.sh` runs these tests once for each growth between the lines
 //! `begin` and `end`, and has it refused. By themselves the tests see none refused.
 
 ghost use Rattle.std.specs.Prelude.{◌≡◌, IfOk};

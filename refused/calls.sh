@@ -1,12 +1,13 @@
 #!/bin/sh
-# refused/batches.sh: has each growth that a batch, a pass of the machine or a new machine asks for refused in turn, and says what
-# came of it.
-# It runs the tests of the files refused.rt of batch_tests and of combiner that `rt test` or `./test` built, once for each growth. A
-# test fails where a refused growth comes to more than one call, but for a history that could not be reserved. The batch and the pass
-# with an empty vector must also be served once with a joined run refused and every call answered. Status 1: something was not so;
-# 2: the tests are not built; 3: nothing was tried, since there is no cc.
+# refused/calls.sh: has each growth refused in turn that a public call of a library asks for: kernels, memories, texts, steps, books,
+# batches, passes of the machine and new machines. It says what came of it.
+# It runs the tests of the files refused.rt of these crates that `rt test` or `./test` built, once for each growth. A test fails where
+# a refused growth is anything but a want of memory that changed nothing, and in batches where it comes to more than one call, but for
+# a history that could not be reserved. The batch and the pass with an empty vector must also be served once with a joined run refused
+# and every call answered. Status 1: something was not so; 2: the tests are not built; 3: nothing was tried, since there is no cc.
 cd "$(dirname "$0")/.." || exit 1
-for crate in batch_tests combiner; do
+crates='kernel_tests call_tests batch_tests combiner'
+for crate in $crates; do
     [ -x "crates/$crate/out/${crate}_tests" ] || { echo "refused: the tests of $crate are not built" >&2; exit 2; }
 done
 command -v cc > /dev/null || { echo "refused: not run, since there is no cc"; exit 3; }
@@ -41,8 +42,8 @@ refuse_each() {
     sort "$made/ways" | uniq -c
 }
 
-for crate in batch_tests combiner; do
-    tests=$("crates/$crate/out/${crate}_tests" --list | sed -n 's/^\([a-z:_]*refused::[a-z_]*\).*/\1/p')
+for crate in $crates; do
+    tests=$("crates/$crate/out/${crate}_tests" --list | sed -n 's/^\([a-z:_]*refused::[a-z:_]*\): test$/\1/p')
     [ -n "$tests" ] || { echo "refused: no test was found in $crate"; status=1; }
     for test in $tests; do
         refuse_each "$crate" "$test"
