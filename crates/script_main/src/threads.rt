@@ -200,8 +200,8 @@ fn work_all<R: Threads + Wait + Sync, G: Gate + Sync>(
 /// A worker leaves each of its calls, asks the gate, and then serves and asks until the call is answered. Behind the last it
 /// asks the gate once more. All workers have ended before this returns. A worker that the gate stops ends with `Stopped`,
 /// and one that memory is refused, or a thread, with `OutOfMemory`; of several the fault of the lowest is answered. So where
-/// `Stopped` is answered the gate let each lower worker take all its turns. The run is `Unfinished` where the machine cannot be closed, or has entries that no worker was told of; with one script that
-/// never is.
+/// `Stopped` is answered the gate let each lower worker take all its turns. The run is `Unfinished` where the machine cannot be
+/// closed, or has entries that no worker was told of; with one script that never is.
 pub fn run_threads<R: Threads + Wait + Sync, G: Gate + Sync>(
     rt: &R,
     alloc: Global,

@@ -1,6 +1,6 @@
 //! Tests of the program as a whole: the worked rows of the profile, every call with each of its faults, lines at the edges
-//! of the grammar, readers and writers that fail at each place, and worker threads with gates that hold or stop them. They stand above the libraries, so that those are
-//! proved once.
+//! of the grammar, readers and writers that fail at each place, and worker threads with gates that hold or stop them. They
+//! stand above the libraries, so that those are proved once.
 #![tactic(auto)]
 
 #[cfg(test)]
