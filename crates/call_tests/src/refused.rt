@@ -21,17 +21,20 @@ const ROOM: u64 = 1000;
 
 /// Calls that set a name of each kind: numbers (z), small ones (d), two permutations (p, and q by segments), a number for each
 /// segment (l), flags (b), a flag for each segment (c) and a segment list (s).
-const OPENING: &str = "z = z 5 -2 7 0 9 4
+fn opening() -> &'static str {
+    "z = z 5 -2 7 0 9 4
 d = z 1 2 3 1 2 3
 p = z 2 0 1 5 3 4
 q = z 1 0 3 0 1 2
 l = z 2 0 4
 b = b T F T T F T
 c = b T F T
-s = mke_fov l";
+s = mke_fov l"
+}
 
 /// A call of each word and of each way of setting a name, all to the name x.
-const CALLS: &str = "x = z 1 2 3
+fn each_word() -> &'static str {
+    "x = z 1 2 3
 x = b T F
 get z
 get b
@@ -132,7 +135,8 @@ x = pck_puz z b
 x = pck_pub b b
 x = pck_pez z b s
 x = pck_peb b b s
-x = pkl_leb b s";
+x = pkl_leb b s"
+}
 
 /// The growths of what comes next are counted, and one may be refused.
 fn begin<R: Print>(rt: &R) -> io::Result<()> {
@@ -166,7 +170,7 @@ fn memory_text(alloc: Global, memory: &Memory) -> Result<Vec<u8>, Fail> {
 /// A memory that has what the opening sets.
 fn opened<R: Alloc<A = Global>>(rt: &R) -> Result<Memory, Fail> {
     let mut memory = Memory::new(rt.alloc(), ROOM)?;
-    for line in OPENING.lines() {
+    for line in opening().lines() {
         let call = Call::read(rt.alloc(), line.as_bytes())?;
         step(&Sequential, rt.alloc(), &mut memory, &call)?;
     }

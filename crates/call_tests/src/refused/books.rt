@@ -1,6 +1,6 @@
 //! Books while memory is refused.
 
-use super::{CALLS, OPENING, ROOM, begin, end, memory_text, text_of};
+use super::{ROOM, begin, each_word, end, memory_text, opening, text_of};
 use call_history::Book;
 use cvl_text::{Call, Reply};
 use scan_kernels::Sequential;
@@ -50,7 +50,7 @@ fn run<R: Abort + Alloc<A = Global> + Print>(
 fn runs_on_a_book(rt: HostRuntime) -> Result<(), Fail> {
     let mut book = new_book(&rt)?;
     let mut other = Book::new(rt.alloc(), ROOM)?;
-    for line in OPENING.lines().chain(CALLS.lines()) {
+    for line in opening().lines().chain(each_word().lines()) {
         let (place, reply) = run(&rt, &mut book, line)?;
         let call = Call::read(rt.alloc(), line.as_bytes())?;
         let Ok((wanted_place, wanted)) = other.run(&Sequential, rt.alloc(), 0, call) else {
@@ -71,7 +71,7 @@ fn runs_on_a_book(rt: HostRuntime) -> Result<(), Fail> {
 #[test]
 fn audits_a_book(rt: HostRuntime) -> Result<(), Fail> {
     let mut book = Book::new(rt.alloc(), ROOM)?;
-    for line in OPENING.lines().chain(CALLS.lines()) {
+    for line in opening().lines().chain(each_word().lines()) {
         let call = Call::read(rt.alloc(), line.as_bytes())?;
         let Ok(_) = book.run(&Sequential, rt.alloc(), 0, call) else {
             return Err("out of memory")?;

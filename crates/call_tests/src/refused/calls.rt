@@ -1,6 +1,6 @@
 //! Steps on a memory while memory is refused.
 
-use super::{CALLS, begin, end, memory_text, opened, text_of};
+use super::{begin, each_word, end, memory_text, opened, text_of};
 use cvl_calls::{Spare, check, step, step_metered, step_with, work};
 use cvl_text::{Call, Reply};
 use scan_kernels::{Meter, Sequential};
@@ -32,7 +32,7 @@ fn stepped<R: Abort + Alloc<A = Global> + Print>(
 fn steps_on_a_memory(rt: HostRuntime) -> Result<(), Fail> {
     let mut memory = opened(&rt)?;
     let mut other = opened(&rt)?;
-    for line in CALLS.lines() {
+    for line in each_word().lines() {
         let call = Call::read(rt.alloc(), line.as_bytes())?;
         let reply = stepped(&rt, &mut memory, &call)?;
         let wanted = step(&Sequential, rt.alloc(), &mut other, &call)?;
@@ -73,7 +73,7 @@ fn steps_with_what_was_kept(rt: HostRuntime) -> Result<(), Fail> {
     let mut memory = opened(&rt)?;
     let mut other = opened(&rt)?;
     let mut spare = Spare::new(rt.alloc());
-    for line in CALLS.lines() {
+    for line in each_word().lines() {
         let call = Call::read(rt.alloc(), line.as_bytes())?;
         let reply = stepped_with(&rt, &mut spare, &mut memory, &call)?;
         let wanted = step(&Sequential, rt.alloc(), &mut other, &call)?;
@@ -108,7 +108,7 @@ fn checks_and_works<R: Abort + Alloc<A = Global> + Print>(
 #[test]
 fn works_on_a_memory(rt: HostRuntime) -> Result<(), Fail> {
     let mut memory = opened(&rt)?;
-    for line in CALLS.lines() {
+    for line in each_word().lines() {
         let call = Call::read(rt.alloc(), line.as_bytes())?;
         let before = memory_text(rt.alloc(), &memory)?;
         checks_and_works(&rt, &memory, &call)?;

@@ -1,6 +1,6 @@
 //! Calls read and replies written while memory is refused.
 
-use super::{CALLS, begin, end, opened, text_of};
+use super::{begin, each_word, end, opened, text_of};
 use cvl_calls::step;
 use cvl_text::{Call, ReadFault, Reply};
 use scan_kernels::Sequential;
@@ -38,7 +38,7 @@ fn writes<R: Abort + Alloc<A = Global> + Print>(rt: &R, reply: &Reply) -> Result
 #[test]
 fn reads_and_writes(rt: HostRuntime) -> Result<(), Fail> {
     let mut memory = opened(&rt)?;
-    for line in CALLS.lines() {
+    for line in each_word().lines() {
         let call = read(&rt, line)?;
         let reply = step(&Sequential, rt.alloc(), &mut memory, &call)?;
         writes(&rt, &reply)?;
