@@ -13,8 +13,9 @@ use cvl_text::{Call, Reply, write_value};
 use scan_kernels::Sequential;
 use std::alloc::{Alloc, Global};
 use std::io;
+use std::process::Abort;
 use std::test::Fail;
-use vector_memory::Memory;
+use vector_memory::{Memory, Name, Value};
 
 /// The room of each memory.
 const ROOM: u64 = 1000;
@@ -155,24 +156,43 @@ fn text_of(alloc: Global, reply: &Reply) -> Result<Vec<u8>, Fail> {
     Ok(text)
 }
 
+/// Puts the text of a name and its value behind another.
+fn write_entry(name: &Name, value: &Value, text: &mut Vec<u8>) -> Result<(), Fail> {
+    text.extend_from_slice(name.text())?;
+    text.push(b' ')?;
+    write_value(value, text)?;
+    text.push(b'\n')?;
+    Ok(())
+}
+
 /// All that a memory holds, as text: a line for each name, in their order.
 fn memory_text(alloc: Global, memory: &Memory) -> Result<Vec<u8>, Fail> {
     let mut text = Vec::new(alloc);
     for (name, value) in memory.iter() {
-        text.extend_from_slice(name.text())?;
-        text.push(b' ')?;
-        write_value(value, &mut text)?;
-        text.push(b'\n')?;
+        write_entry(name, value, &mut text)?;
     }
     Ok(text)
 }
 
+/// Asserts that a memory holds what this text says.
+fn holds<R: Abort + Alloc<A = Global>>(rt: &R, memory: &Memory, text: &[u8]) -> Result<(), Fail> {
+    let found = memory_text(rt.alloc(), memory)?;
+    assert!(rt; found.as_slice() == text);
+    Ok(())
+}
+
+/// What a memory that is refused nothing replies to a line, as text.
+fn replied(alloc: Global, memory: &mut Memory, line: &str) -> Result<Vec<u8>, Fail> {
+    let call = Call::read(alloc, line.as_bytes())?;
+    let reply = step(&Sequential, alloc, memory, &call)?;
+    text_of(alloc, &reply)
+}
+
 /// A memory that has what the opening sets.
-fn opened<R: Alloc<A = Global>>(rt: &R) -> Result<Memory, Fail> {
-    let mut memory = Memory::new(rt.alloc(), ROOM)?;
+fn opened(alloc: Global) -> Result<Memory, Fail> {
+    let mut memory = Memory::new(alloc, ROOM)?;
     for line in opening().lines() {
-        let call = Call::read(rt.alloc(), line.as_bytes())?;
-        step(&Sequential, rt.alloc(), &mut memory, &call)?;
+        replied(alloc, &mut memory, line)?;
     }
     Ok(memory)
 }

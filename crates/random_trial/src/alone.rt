@@ -30,16 +30,23 @@ pub(crate) fn run_lines(
     Some(true)
 }
 
-/// Whether a plain memory replies to these lines what was told from this place on, in order.
-fn agrees(alloc: Global, memory: &mut Memory, lines: &str, told: &[Told]) -> Option<bool> {
-    for (line, one) in lines.lines().zip(told.iter()) {
-        let call = Call::read(alloc, line.as_bytes()).ok()?;
-        let reply = step(&Sequential, alloc, memory, &call).ok()?;
-        if text_of(alloc, &reply)? != one.reply {
+/// Whether a memory replies to a line what was told of it.
+fn replies(alloc: Global, memory: &mut Memory, line: &str, told: &Told) -> Option<bool> {
+    let call = Call::read(alloc, line.as_bytes()).ok()?;
+    let reply = step(&Sequential, alloc, memory, &call).ok()?;
+    Some(text_of(alloc, &reply)? == told.reply)
+}
+
+/// Whether a plain memory replies to the lines of a script what was told, in order, and ends with what the book holds.
+fn agrees(alloc: Global, script: &Script, book: &Book, told: &[Told]) -> Option<bool> {
+    let mut memory = Memory::new(alloc, book.room()).ok()?;
+    let lines = script.opening.lines().chain(script.calls.lines());
+    for (line, one) in lines.zip(told.iter()) {
+        if !replies(alloc, &mut memory, line, one)? {
             return Some(false);
         }
     }
-    Some(true)
+    Some(memory_text(alloc, &memory)? == memory_text(alloc, book.memory())?)
 }
 
 /// A book of the script's room.
@@ -54,19 +61,7 @@ pub(crate) fn book_of(alloc: Global, script: &Script) -> Option<Book> {
 pub(crate) fn is_right(alloc: Global, script: &Script) -> Option<bool> {
     let mut book = book_of(alloc, script)?;
     let mut told = Vec::new(alloc);
-    let read = run_lines(alloc, &mut book, &script.opening, &mut told)?;
-    let opened = told.len();
-    if !read || !run_lines(alloc, &mut book, &script.calls, &mut told)? {
-        return Some(false);
-    }
-    let mut memory = Memory::new(alloc, book.room()).ok()?;
-    let agreed = agrees(alloc, &mut memory, &script.opening, &told)?
-        && agrees(
-            alloc,
-            &mut memory,
-            &script.calls,
-            &told[opened.min(told.len())..],
-        )?;
-    let same = memory_text(alloc, &memory)? == memory_text(alloc, book.memory())?;
-    Some(agreed && same && is_told_right(alloc, &book, &told)?)
+    let read = run_lines(alloc, &mut book, &script.opening, &mut told)?
+        && run_lines(alloc, &mut book, &script.calls, &mut told)?;
+    Some(read && agrees(alloc, script, &book, &told)? && is_told_right(alloc, &book, &told)?)
 }

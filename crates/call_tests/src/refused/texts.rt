@@ -9,39 +9,47 @@ use std::process::Abort;
 use std::test::Fail;
 
 /// The call of a line. Where memory is refused it is read again.
-pub(super) fn read<R: Abort + Alloc<A = Global> + Print>(rt: &R, line: &str) -> Result<Call, Fail> {
+fn read<R: Abort + Alloc<A = Global> + Print>(rt: &R, line: &str) -> Result<Call, Fail> {
     begin(rt)?;
     let read = Call::read(rt.alloc(), line.as_bytes());
     end(rt)?;
-    match read {
-        Ok(call) => Ok(call),
-        Err(fault) => {
-            assert!(rt; matches!(fault, ReadFault::OutOfMemory), "{line}");
-            Ok(Call::read(rt.alloc(), line.as_bytes())?)
-        }
+    if let Ok(call) = read {
+        return Ok(call);
     }
+    assert!(rt; matches!(read, Err(ReadFault::OutOfMemory)));
+    Ok(Call::read(rt.alloc(), line.as_bytes())?)
 }
 
-/// Writes a reply behind a text. Where memory is refused the text that stood there is a beginning of what stands there then, and
-/// that one of the whole.
-fn writes<R: Abort + Alloc<A = Global> + Print>(rt: &R, reply: &Reply) -> Result<(), Fail> {
-    let whole = text_of(rt.alloc(), reply)?;
+/// Writes a reply. Where memory is refused, what was written is a beginning of the whole text.
+fn writes<R: Abort + Alloc<A = Global> + Print>(
+    rt: &R,
+    reply: &Reply,
+    whole: &[u8],
+) -> Result<(), Fail> {
     let mut text = Vec::new(rt.alloc());
     begin(rt)?;
     let written = reply.write(&mut text);
     end(rt)?;
     assert!(rt; whole.starts_with(text.as_slice()));
-    assert!(rt; written.is_err() || text == whole);
+    assert!(rt; written.is_err() || text.len() == whole.len());
     Ok(())
 }
 
 #[test]
-fn reads_and_writes(rt: HostRuntime) -> Result<(), Fail> {
-    let mut memory = opened(&rt)?;
+fn reads_each_word(rt: HostRuntime) -> Result<(), Fail> {
     for line in each_word().lines() {
-        let call = read(&rt, line)?;
+        read(&rt, line)?;
+    }
+    Ok(())
+}
+
+#[test]
+fn writes_each_reply(rt: HostRuntime) -> Result<(), Fail> {
+    let mut memory = opened(rt.alloc())?;
+    for line in each_word().lines() {
+        let call = Call::read(rt.alloc(), line.as_bytes())?;
         let reply = step(&Sequential, rt.alloc(), &mut memory, &call)?;
-        writes(&rt, &reply)?;
+        writes(&rt, &reply, &text_of(rt.alloc(), &reply)?)?;
     }
     Ok(())
 }

@@ -1,6 +1,10 @@
 //! Memories, values and segment lists while memory is refused.
 
-use super::{ROOM, begin, end, memory_text, opened};
+ghost use Rattle.std.specs.Prelude.{IfOk};
+ghost use Rattle.vector_memory.specs.Contents.{content_of};
+ghost use Rattle.vector_memory.specs.States.{FitsLimits};
+
+use super::{ROOM, begin, end, holds, memory_text, opened};
 use segment_desc::{SegFault, Segd};
 use std::alloc::{Alloc, Global};
 use std::process::Abort;
@@ -12,30 +16,46 @@ fn new_memory<R: Alloc<A = Global> + Print>(rt: &R) -> Result<Memory, Fail> {
     begin(rt)?;
     let memory = Memory::new(rt.alloc(), ROOM);
     end(rt)?;
-    match memory {
-        Ok(memory) => Ok(memory),
-        Err(_) => Ok(Memory::new(rt.alloc(), ROOM)?),
+    if let Ok(memory) = memory {
+        return Ok(memory);
     }
+    Ok(Memory::new(rt.alloc(), ROOM)?)
 }
 
-/// Stores a number under a new name. Where memory is refused the memory has not changed, and the number is stored again.
+/// A value of one item.
+fn seven(alloc: Global, limit: usize) -> Result<Value, Fail>
+    ensures { IfOk result (λ value. FitsLimits limit (content_of value)) }
+{
+    if limit == 0 {
+        return Err("no value fits")?;
+    }
+    Ok(Value::Ints(Vec::from_slice(alloc, &[7])?))
+}
+
+/// The name of this number.
+fn numbered(alloc: Global, number: u32) -> Result<Name, Fail> {
+    let text = format!(in alloc; "n{number}")?;
+    Ok(Name::read(text.as_bytes()).ok_or("no name")?)
+}
+
+/// Stores a value under a new name. Where memory is refused the memory has not changed, and the value is stored again.
 fn stores<R: Abort + Alloc<A = Global> + Print>(
     rt: &R,
     memory: &mut Memory,
     name: Name,
 ) -> Result<(), Fail> {
     let before = memory_text(rt.alloc(), memory)?;
-    let value = Value::Ints(Vec::from_slice(rt.alloc(), &[7])?);
+    let value = seven(rt.alloc(), memory.limit())?;
     begin(rt)?;
     let stored = memory.store(name, value);
     end(rt)?;
-    if let Err(fault) = stored {
-        assert!(rt; matches!(fault, StoreFault::OutOfMemory));
-        assert!(rt; memory_text(rt.alloc(), memory)? == before);
-        let value = Value::Ints(Vec::from_slice(rt.alloc(), &[7])?);
-        memory.store(name, value)?;
-    }
-    Ok(())
+    let Err(fault) = stored else {
+        return Ok(());
+    };
+    assert!(rt; fault == StoreFault::OutOfMemory);
+    holds(rt, memory, &before)?;
+    let value = seven(rt.alloc(), memory.limit())?;
+    Ok(memory.store(name, value)?)
 }
 
 /// As many names as make the map grow twice.
@@ -43,10 +63,7 @@ fn stores<R: Abort + Alloc<A = Global> + Print>(
 fn stores_new_names(rt: HostRuntime) -> Result<(), Fail> {
     let mut memory = new_memory(&rt)?;
     for number in 0..70 {
-        let text = format!(in rt.alloc(); "n{number}")?;
-        let Some(name) = Name::read(text.as_bytes()) else {
-            return Err("no name")?;
-        };
+        let name = numbered(rt.alloc(), number)?;
         stores(&rt, &mut memory, name)?;
     }
     assert!(rt; memory.len() == 70 && memory.cells() == 70);
@@ -55,58 +72,77 @@ fn stores_new_names(rt: HostRuntime) -> Result<(), Fail> {
 
 #[test]
 fn copies_values(rt: HostRuntime) -> Result<(), Fail> {
-    let memory = opened(&rt)?;
+    let memory = opened(rt.alloc())?;
     for (_, value) in memory.iter() {
         begin(&rt)?;
         let copy = value.try_copy();
         end(&rt)?;
-        if let Ok(copy) = copy {
-            assert!(rt; copy == *value);
-        }
+        assert!(rt; copy.map_or(true, |copy| copy == *value));
     }
     Ok(())
 }
 
-/// A segment list of these lengths. Where memory is refused it is made again.
-fn segments<R: Abort + Alloc<A = Global> + Print>(rt: &R, lengths: &[i64]) -> Result<Segd, Fail> {
+/// Makes a segment list. Where memory is refused it is made again.
+fn made<R: Abort + Alloc<A = Global> + Print>(rt: &R, lengths: &[i64]) -> Result<Segd, Fail> {
     begin(rt)?;
     let made = Segd::from_lengths(rt.alloc(), lengths);
     end(rt)?;
-    match made {
-        Ok(made) => Ok(made),
-        Err(fault) => {
-            assert!(rt; fault == SegFault::OutOfMemory);
-            Ok(Segd::from_lengths(rt.alloc(), lengths)?)
-        }
+    if let Ok(made) = made {
+        return Ok(made);
     }
+    assert!(rt; made == Err(SegFault::OutOfMemory));
+    Ok(Segd::from_lengths(rt.alloc(), lengths)?)
+}
+
+/// Asserts that a segment list has these lengths.
+fn has_lengths<R: Abort>(rt: &R, segments: &Segd, lengths: &[usize]) {
+    assert!(rt; segments.lengths() == lengths);
 }
 
 #[test]
-fn makes_segment_lists(rt: HostRuntime) -> Result<(), Fail> {
-    let mut first = segments(&rt, &[2, 0, 4])?;
-    let second = segments(&rt, &[1, 5])?;
+fn makes_one_segment(rt: HostRuntime) -> Result<(), Fail> {
     begin(&rt)?;
     let one = Segd::one(rt.alloc(), 9);
-    let copy = second.try_copy();
     end(&rt)?;
-    assert!(rt; one.is_ok() || one == Err(SegFault::OutOfMemory));
-    assert!(rt; copy.is_err() || copy == Ok(Segd::from_lengths(rt.alloc(), &[1, 5])?));
+    match one {
+        Ok(one) => has_lengths(&rt, &one, &[9]),
+        Err(fault) => assert!(rt; fault == SegFault::OutOfMemory),
+    }
+    Ok(())
+}
+
+#[test]
+fn copies_a_segment_list(rt: HostRuntime) -> Result<(), Fail> {
+    let segments = made(&rt, &[1, 5])?;
+    begin(&rt)?;
+    let copy = segments.try_copy();
+    end(&rt)?;
+    if let Ok(copy) = copy {
+        has_lengths(&rt, &copy, &[1, 5]);
+    }
+    Ok(())
+}
+
+#[test]
+fn joins_segment_lists(rt: HostRuntime) -> Result<(), Fail> {
+    let mut first = made(&rt, &[2, 0, 4])?;
+    let second = made(&rt, &[1, 5])?;
     begin(&rt)?;
     let joined = first.join(&second);
     end(&rt)?;
-    let wanted: &[i64] = if joined.is_ok() {
+    let wanted: &[usize] = if joined.is_ok() {
         &[2, 0, 4, 1, 5]
     } else {
         &[2, 0, 4]
     };
-    assert!(rt; first == Segd::from_lengths(rt.alloc(), wanted)?);
+    has_lengths(&rt, &first, wanted);
     Ok(())
 }
 
 /// The lengths go behind those of a list, or the list stays as it is.
 #[test]
 fn lists_lengths(rt: HostRuntime) -> Result<(), Fail> {
-    let segments = Segd::from_lengths(rt.alloc(), &[2, 0, 4])?;
+    let segments = made(&rt, &[2, 0, 4])?;
     let mut list = Vec::from_slice(rt.alloc(), &[9])?;
     begin(&rt)?;
     let listed = segments.lengths_into(&mut list);
