@@ -1,9 +1,9 @@
 //! Worker threads with gates that hold them or stop them.
 
 use crate::streams::Pieces;
-use cvl_text::Call;
+use cvl_text::{Call, Reply};
 use scan_kernels::Sequential;
-use script_main::{Gate, ReadSource, RunFault, read_script, run_threads};
+use script_main::{Gate, ReadSource, RunFault, Settled, read_script, run_threads};
 use std::alloc::{Alloc, Global};
 use std::process::Abort;
 use std::sync::Wait;
@@ -44,6 +44,30 @@ struct Came {
     said: Vec<u8>,
 }
 
+/// Puts the texts of replies behind others, a line for each.
+fn say_all(said: &mut Vec<u8>, replies: &[Reply]) -> Result<(), Fail> {
+    for reply in replies {
+        reply.write(said)?;
+        said.push(b'\n')?;
+    }
+    Ok(())
+}
+
+/// What is kept of a run that settled.
+fn came_of(alloc: Global, settled: &Settled) -> Result<Came, Fail> {
+    let mut replies = Vec::new(alloc);
+    let mut said = Vec::new(alloc);
+    for own in &settled.replies {
+        replies.push(own.len())?;
+        say_all(&mut said, own)?;
+    }
+    Ok(Came {
+        replies,
+        history: settled.book.len(),
+        said,
+    })
+}
+
 /// Runs a script through a gate.
 fn run_through<G: Gate + Sync>(
     rt: &(impl Alloc<A = Global> + Threads + Wait + Abort + Sync),
@@ -57,21 +81,7 @@ fn run_through<G: Gate + Sync>(
         Err(fault) => return Ok(Err(fault)),
     };
     assert!(rt; settled.book.audit(&Sequential, rt.alloc())?);
-    let mut replies = Vec::new(rt.alloc());
-    let mut said = Vec::new(rt.alloc());
-    for own in &settled.replies {
-        replies.push(own.len())?;
-        for reply in own {
-            reply.write(&mut said)?;
-            said.push(b'\n')?;
-        }
-    }
-    let history = settled.book.len();
-    Ok(Ok(Came {
-        replies,
-        history,
-        said,
-    }))
+    Ok(Ok(came_of(rt.alloc(), &settled)?))
 }
 
 /// Three workers: the first has no call, the others one each.

@@ -65,27 +65,42 @@ fn reports_an_empty_script(rt: HostRuntime) -> Result<(), Fail> {
     Ok(())
 }
 
+/// A line for each name from this number on to that one, which it stands for.
+fn names_between(text: &mut Vec<u8>, alloc: Global, from: u64, to: u64) -> Result<(), Fail> {
+    for k in from..to {
+        text.extend_from_slice(format!(in alloc; "x{k} z {k}\n")?.as_bytes())?;
+    }
+    Ok(())
+}
+
+/// The names x0 to x63 in the order of their bytes.
+fn names_in_order(text: &mut Vec<u8>, alloc: Global) -> Result<(), Fail> {
+    names_between(text, alloc, 0, 2)?;
+    names_between(text, alloc, 10, 20)?;
+    for first in 2..7u64 {
+        names_between(text, alloc, first, first + 1)?;
+        names_between(text, alloc, first * 10, (first * 10 + 10).min(64))?;
+    }
+    names_between(text, alloc, 7, 10)
+}
+
+/// A script in which each of 64 callers sets a name of its own.
+fn a_line_each(alloc: Global) -> Result<Vec<u8>, Fail> {
+    let mut script = Vec::new(alloc);
+    for k in 0..64u64 {
+        script.extend_from_slice(format!(in alloc; "{k}: x{k} = z {k}\n")?.as_bytes())?;
+    }
+    Ok(script)
+}
+
 #[test]
 fn all_callers_at_once(rt: HostRuntime) -> Result<(), Fail> {
-    let mut script = Vec::new(rt.alloc());
+    let script = a_line_each(rt.alloc())?;
     let mut text = Vec::new(rt.alloc());
     for k in 0..64u64 {
-        script.extend_from_slice(format!(in rt.alloc(); "{k}: x{k} = z {k}\n")?.as_bytes())?;
         replies(&rt, &mut text, k, 1, "")?;
     }
-    text.extend_from_slice(b"x0 z 0\nx1 z 1\n")?;
-    for k in 10..20u64 {
-        text.extend_from_slice(format!(in rt.alloc(); "x{k} z {k}\n")?.as_bytes())?;
-    }
-    for first in 2..10u64 {
-        text.extend_from_slice(format!(in rt.alloc(); "x{first} z {first}\n")?.as_bytes())?;
-        if first < 7 {
-            let last = if first < 6 { 10 } else { 4 };
-            for k in first * 10..first * 10 + last {
-                text.extend_from_slice(format!(in rt.alloc(); "x{k} z {k}\n")?.as_bytes())?;
-            }
-        }
-    }
+    names_in_order(&mut text, rt.alloc())?;
     text.extend_from_slice(b"history 64\naudit ok\n")?;
     assert!(rt; answers(&rt, &["threads"], &script, &text, 0)?);
     Ok(())
