@@ -7,6 +7,8 @@ mod cut;
 #[cfg(test)]
 mod kernels;
 #[cfg(test)]
+mod made;
+#[cfg(test)]
 mod permutes;
 #[cfg(test)]
 mod refused;

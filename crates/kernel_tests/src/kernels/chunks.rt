@@ -2,6 +2,7 @@
 //! that was kept.
 
 use crate::cut::cut;
+use crate::made::is_made;
 use scan_kernels::{
     B1, B2, Cmp, Kept, Meter, ScanB, ScanZ, Sequential, Z1, Z2, compare2, map1_b, map1_z, map2_b,
     map2_z, number, reduce_b, reduce_whole_b, reduce_whole_z, reduce_z, scan_b, scan_whole_b,
@@ -31,10 +32,10 @@ macro_rules! by_chunks {
         for chunk in [1, 2, 7, 4_096] {
             let mut meter = Meter::with_chunk(chunk);
             let fresh = $kernel(&$rt, $rt.alloc(), &mut meter $(, $operand)*);
-            assert!($rt; fresh.is_ok_and(|made| made.as_slice() == $wanted.as_slice()), "chunk {chunk}");
+            assert!($rt; is_made(fresh, $wanted.as_slice()), "chunk {chunk}");
             let kept = Kept::new(vec![in $rt.alloc(); $old; $wanted.len()]?);
             let over = $kernel(&Sequential, kept, &mut meter $(, $operand)*);
-            assert!($rt; over.is_ok_and(|made| made.as_slice() == $wanted.as_slice()), "chunk {chunk}");
+            assert!($rt; is_made(over, $wanted.as_slice()), "chunk {chunk}");
             assert_eq!($rt; meter.runs(), 2);
         }
     };
@@ -192,6 +193,6 @@ fn begins_anew_behind_empty_segments(rt: HostRuntime) -> Result<(), Fail> {
     assert!(rt; made.get(49_999) == Some(&49_999) && made.get(50_000) == Some(&0));
     let sums = reduce_z(&rt, rt.alloc(), &mut meter, ScanZ::Add, &ones, &segments);
     let wanted = [0i64, 50_000, 0, 0, 50_000];
-    assert!(rt; sums.is_ok_and(|sums| sums.as_slice() == wanted.as_slice()));
+    assert!(rt; is_made(sums, wanted.as_slice()));
     Ok(())
 }

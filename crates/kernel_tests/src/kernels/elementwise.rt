@@ -1,6 +1,7 @@
 ghost use Rattle.std.specs.Prelude.{◌≡◌, length, All};
 ghost use Rattle.item_operations.specs.IntegerOps.{IsAllowed};
 
+use crate::made::is_made;
 use scan_kernels::{
     B1, B2, Cmp, Execution, Meter, Z1, Z2, compare2, divisors_ok, map1_b, map1_z, map2_b, map2_z,
     number, select_b, select_z, shifts_ok, truth,
@@ -164,16 +165,16 @@ fn truth_tables(rt: HostRuntime) -> Result<(), Fail> {
 fn alters_single_items(rt: HostRuntime) -> Result<(), Fail> {
     let mut meter = Meter::new();
     let not = map1_z(&rt, rt.alloc(), &mut meter, Z1::Not, &[0, 5, i64::MAX]);
-    assert!(rt; not.is_ok_and(|made| made.as_slice() == [-1i64, -6, i64::MIN].as_slice()));
+    assert!(rt; is_made(not, &[-1i64, -6, i64::MIN]));
     assert_eq!(rt; meter.runs(), 1);
     let same = map1_z(&rt, rt.alloc(), &mut meter, Z1::Cpy, &[3, i64::MIN]);
-    assert!(rt; same.is_ok_and(|made| made.as_slice() == [3i64, i64::MIN].as_slice()));
+    assert!(rt; is_made(same, &[3i64, i64::MIN]));
     assert_eq!(rt; meter.runs(), 2);
     let not = map1_b(&rt, rt.alloc(), &mut meter, B1::Not, &[true, false]);
-    assert!(rt; not.is_ok_and(|made| made.as_slice() == [false, true].as_slice()));
+    assert!(rt; is_made(not, &[false, true]));
     assert_eq!(rt; meter.runs(), 3);
     let same = map1_b(&rt, rt.alloc(), &mut meter, B1::Cpy, &[true, false]);
-    assert!(rt; same.is_ok_and(|made| made.as_slice() == [true, false].as_slice()));
+    assert!(rt; is_made(same, &[true, false]));
     assert_eq!(rt; meter.runs(), 4);
     Ok(())
 }
@@ -189,7 +190,7 @@ fn selects_by_flags(rt: HostRuntime) -> Result<(), Fail> {
         &[1, 2],
         &[3, 4],
     );
-    assert!(rt; items.is_ok_and(|made| made.as_slice() == [1i64, 4].as_slice()));
+    assert!(rt; is_made(items, &[1i64, 4]));
     assert_eq!(rt; meter.runs(), 1);
     let flags = select_b(
         &rt,
@@ -199,7 +200,7 @@ fn selects_by_flags(rt: HostRuntime) -> Result<(), Fail> {
         &[true, true],
         &[false, false],
     );
-    assert!(rt; flags.is_ok_and(|made| made.as_slice() == [true, false].as_slice()));
+    assert!(rt; is_made(flags, &[true, false]));
     assert_eq!(rt; meter.runs(), 2);
     Ok(())
 }
@@ -208,10 +209,10 @@ fn selects_by_flags(rt: HostRuntime) -> Result<(), Fail> {
 fn converts_both_ways(rt: HostRuntime) -> Result<(), Fail> {
     let mut meter = Meter::new();
     let flags = truth(&rt, rt.alloc(), &mut meter, &[0, -3, 1]);
-    assert!(rt; flags.is_ok_and(|made| made.as_slice() == [false, true, true].as_slice()));
+    assert!(rt; is_made(flags, &[false, true, true]));
     assert_eq!(rt; meter.runs(), 1);
     let items = number(&rt, rt.alloc(), &mut meter, &[true, false]);
-    assert!(rt; items.is_ok_and(|made| made.as_slice() == [1i64, 0].as_slice()));
+    assert!(rt; is_made(items, &[1i64, 0]));
     assert_eq!(rt; meter.runs(), 2);
     Ok(())
 }

@@ -1,6 +1,7 @@
 //! Results in vectors that were kept: with space for as many items, for fewer, for more and for none.
 
 use crate::cut::cut;
+use crate::made::is_made;
 use scan_kernels::{
     Cmp, Kept, Meter, ScanZ, Z1, Z2, compare2, index_whole, map1_z, map2_z, scan_z, select_b,
 };
@@ -13,19 +14,13 @@ fn integers_in_a_kept_vector(rt: HostRuntime) -> Result<(), Fail> {
         let mut meter = Meter::new();
         let kept = Kept::new(vec![in rt.alloc(); 7i64; space]?);
         let made = map2_z(&rt, kept, &mut meter, Z2::Add, &[1, 2, 3], &[10, 20, 30]);
-        assert!(rt;
-            made.is_ok_and(|made| made.as_slice() == [11i64, 22, 33].as_slice()),
-            "space {space}"
-        );
+        assert!(rt; is_made(made, &[11i64, 22, 33]), "space {space}");
         let kept = Kept::new(vec![in rt.alloc(); 7i64; space]?);
         let made = index_whole(&rt, kept, &mut meter, 5, -2, 3);
-        assert!(rt;
-            made.is_ok_and(|made| made.as_slice() == [5i64, 3, 1].as_slice()),
-            "space {space}"
-        );
+        assert!(rt; is_made(made, &[5i64, 3, 1]), "space {space}");
         let kept = Kept::new(vec![in rt.alloc(); 7i64; space]?);
         let made = map1_z(&rt, kept, &mut meter, Z1::Not, &[]);
-        assert!(rt; made.is_ok_and(|made| made.is_empty()), "space {space}");
+        assert!(rt; is_made(made, &[]), "space {space}");
         assert_eq!(rt; meter.runs(), 3);
     }
     Ok(())
@@ -37,17 +32,11 @@ fn truth_values_in_a_kept_vector(rt: HostRuntime) -> Result<(), Fail> {
         let mut meter = Meter::new();
         let kept = Kept::new(vec![in rt.alloc(); true; space]?);
         let made = compare2(&rt, kept, &mut meter, Cmp::Les, &[1, 2], &[2, 1]);
-        assert!(rt;
-            made.is_ok_and(|made| made.as_slice() == [true, false].as_slice()),
-            "space {space}"
-        );
+        assert!(rt; is_made(made, &[true, false]), "space {space}");
         let kept = Kept::new(vec![in rt.alloc(); true; space]?);
         let flags = [true, false];
         let made = select_b(&rt, kept, &mut meter, &flags, &[false, true], &[true, true]);
-        assert!(rt;
-            made.is_ok_and(|made| made.as_slice() == [false, true].as_slice()),
-            "space {space}"
-        );
+        assert!(rt; is_made(made, &[false, true]), "space {space}");
         assert_eq!(rt; meter.runs(), 2);
     }
     Ok(())
@@ -62,10 +51,7 @@ fn segments_in_a_kept_vector(rt: HostRuntime) -> Result<(), Fail> {
         let mut meter = Meter::new();
         let kept = Kept::new(vec![in rt.alloc(); 7i64; space]?);
         let made = scan_z(&rt, kept, &mut meter, ScanZ::Add, &items, &segments);
-        assert!(rt;
-            made.is_ok_and(|made| made.as_slice() == [0i64, 1, 3, 0, 4].as_slice()),
-            "space {space}"
-        );
+        assert!(rt; is_made(made, &[0i64, 1, 3, 0, 4]), "space {space}");
         assert_eq!(rt; meter.runs(), 1);
     }
     Ok(())

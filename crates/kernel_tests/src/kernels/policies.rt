@@ -1,5 +1,6 @@
 //! A kernel in the calling thread alone, and the meter that goes with it.
 
+use crate::made::is_made;
 use scan_kernels::{Meter, Sequential, Z2, map2_z};
 use std::process::Abort;
 
@@ -14,7 +15,7 @@ fn runs_with_no_runtime(rt: HostRuntime) {
         &[1, 20, 3],
         &[10, 2, 3],
     );
-    assert!(rt; made.is_ok_and(|made| made.as_slice() == [-9i64, 18, 0].as_slice()));
+    assert!(rt; is_made(made, &[-9i64, 18, 0]));
     assert_eq!(rt; meter.runs(), 1);
     assert_eq!(rt; meter.chunk(), 2);
     assert_eq!(rt; Meter::new().chunk(), 4_096);

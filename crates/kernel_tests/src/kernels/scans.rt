@@ -1,6 +1,7 @@
 //! Scans and reductions of segments, empty ones among them, and of the ends of the range.
 
 use crate::cut::cut;
+use crate::made::is_made;
 use scan_kernels::{Execution, Meter, ScanB, ScanZ, reduce_b, reduce_z, scan_b, scan_z};
 use std::alloc::Global;
 use std::process::Abort;
@@ -136,7 +137,7 @@ fn scans_and_reduces_truth_values(rt: HostRuntime) -> Result<(), Fail> {
         &[true, true, false, true],
         &four,
     );
-    assert!(rt; odd.is_ok_and(|made| made.as_slice() == [false, true, false, false].as_slice()));
+    assert!(rt; is_made(odd, &[false, true, false, false]));
     assert_eq!(rt; meter.runs(), 1);
     let three = cut(rt.alloc(), &[2, 0, 1])?;
     assert!(rt; three.total() == 3);
@@ -153,7 +154,7 @@ fn scans_and_reduces_truth_values(rt: HostRuntime) -> Result<(), Fail> {
             &[true, false, true],
             &three,
         );
-        assert!(rt; made.is_ok_and(|made| made.as_slice() == wanted.as_slice()));
+        assert!(rt; is_made(made, &wanted));
     }
     assert_eq!(rt; meter.runs(), 4);
     Ok(())

@@ -1,6 +1,7 @@
 //! Values given out over segments, and integers that rise by strides.
 
 use crate::cut::cut;
+use crate::made::is_made;
 use scan_kernels::{Meter, distribute_b, distribute_z, index};
 use std::process::Abort;
 use std::test::Fail;
@@ -11,16 +12,16 @@ fn gives_out_each_value(rt: HostRuntime) -> Result<(), Fail> {
     let three = cut(rt.alloc(), &[2, 0, 1])?;
     assert!(rt; three.count() == 3);
     let made = distribute_z(&rt, rt.alloc(), &mut meter, &[5, 6, 7], &three);
-    assert!(rt; made.is_ok_and(|made| made.as_slice() == [5i64, 5, 7].as_slice()));
+    assert!(rt; is_made(made, &[5i64, 5, 7]));
     assert_eq!(rt; meter.runs(), 1);
     let two = cut(rt.alloc(), &[1, 2])?;
     assert!(rt; two.count() == 2);
     let made = distribute_b(&rt, rt.alloc(), &mut meter, &[true, false], &two);
-    assert!(rt; made.is_ok_and(|made| made.as_slice() == [true, false, false].as_slice()));
+    assert!(rt; is_made(made, &[true, false, false]));
     let none = cut(rt.alloc(), &[])?;
     assert!(rt; none.count() == 0);
     let made = distribute_z(&rt, rt.alloc(), &mut meter, &[], &none);
-    assert!(rt; made.is_ok_and(|made| made.is_empty()));
+    assert!(rt; is_made(made, &[]));
     assert_eq!(rt; meter.runs(), 3);
     Ok(())
 }
@@ -31,15 +32,15 @@ fn rises_by_the_stride_of_each_segment(rt: HostRuntime) -> Result<(), Fail> {
     let two = cut(rt.alloc(), &[3, 2])?;
     assert!(rt; two.count() == 2);
     let made = index(&rt, rt.alloc(), &mut meter, &[0, 10], &[1, -1], &two);
-    assert!(rt; made.is_ok_and(|made| made.as_slice() == [0i64, 1, 2, 10, 9].as_slice()));
+    assert!(rt; is_made(made, &[0i64, 1, 2, 10, 9]));
     assert_eq!(rt; meter.runs(), 1);
     let one = cut(rt.alloc(), &[4])?;
     assert!(rt; one.count() == 1);
     let made = index(&rt, rt.alloc(), &mut meter, &[5], &[-2], &one);
-    assert!(rt; made.is_ok_and(|made| made.as_slice() == [5i64, 3, 1, -1].as_slice()));
+    assert!(rt; is_made(made, &[5i64, 3, 1, -1]));
     let made = index(&rt, rt.alloc(), &mut meter, &[i64::MAX], &[1], &one);
     let wrapped = [i64::MAX, i64::MIN, i64::MIN + 1, i64::MIN + 2];
-    assert!(rt; made.is_ok_and(|made| made.as_slice() == wrapped.as_slice()));
+    assert!(rt; is_made(made, &wrapped));
     assert_eq!(rt; meter.runs(), 3);
     Ok(())
 }
@@ -56,7 +57,7 @@ fn takes_segments_of_one_item(rt: HostRuntime) -> Result<(), Fail> {
     let mut values = [5i64; 67];
     values[65] = 6;
     let made = distribute_z(&rt, rt.alloc(), &mut meter, &values, &segments);
-    assert!(rt; made.is_ok_and(|made| made.as_slice() == [5i64; 67].as_slice()));
+    assert!(rt; is_made(made, &[5i64; 67]));
     let made = index(
         &rt,
         rt.alloc(),
@@ -67,6 +68,6 @@ fn takes_segments_of_one_item(rt: HostRuntime) -> Result<(), Fail> {
     );
     let mut rising = [5i64; 67];
     rising[66] = 8;
-    assert!(rt; made.is_ok_and(|made| made.as_slice() == rising.as_slice()));
+    assert!(rt; is_made(made, &rising));
     Ok(())
 }

@@ -1,6 +1,7 @@
 //! Kernels in chunks of 1, 2, 7 and 4,096 items: in threads into fresh memory, and one chunk after another over a vector that
 //! was kept.
 
+use crate::made::is_made;
 use permute_kernels::{
     are_places, gather_b, gather_z, is_whole_permutation, permute_whole_b, permute_whole_z,
 };
@@ -20,10 +21,10 @@ macro_rules! by_chunks {
         for chunk in [1, 2, 7, 4_096] {
             let mut meter = Meter::with_chunk(chunk);
             let fresh = $kernel(&$rt, $rt.alloc(), &mut meter $(, $operand)*);
-            assert!($rt; fresh.is_ok_and(|made| made.as_slice() == $wanted.as_slice()), "chunk {chunk}");
+            assert!($rt; is_made(fresh, $wanted.as_slice()), "chunk {chunk}");
             let kept = Kept::new(vec![in $rt.alloc(); $old; $wanted.len()]?);
             let over = $kernel(&Sequential, kept, &mut meter $(, $operand)*);
-            assert!($rt; over.is_ok_and(|made| made.as_slice() == $wanted.as_slice()), "chunk {chunk}");
+            assert!($rt; is_made(over, $wanted.as_slice()), "chunk {chunk}");
             assert_eq!($rt; meter.runs(), 2);
         }
     };

@@ -1,6 +1,7 @@
 //! Results in vectors that were kept: with space for as many items, for fewer, for more and for none.
 
 use crate::cut::cut;
+use crate::made::is_made;
 use permute_kernels::{
     are_places, gather_z, is_whole_permutation, pack_b, pack_z, packed_lengths, permute_whole_b,
 };
@@ -16,25 +17,16 @@ fn integers_in_a_kept_vector(rt: HostRuntime) -> Result<(), Fail> {
         let kept = Kept::new(vec![in rt.alloc(); 7i64; space]?);
         let flags = [true, false, true];
         let made = pack_z(&rt, kept, &mut meter, &[5, 6, 8], &flags);
-        assert!(rt;
-            made.is_ok_and(|made| made.as_slice() == [5i64, 8].as_slice()),
-            "space {space}"
-        );
+        assert!(rt; is_made(made, &[5i64, 8]), "space {space}");
         let kept = Kept::new(vec![in rt.alloc(); 7i64; space]?);
         assert!(rt; are_places(&index, 3));
         let made = gather_z(&rt, kept, &mut meter, &[5, 6, 8], &index);
-        assert!(rt;
-            made.is_ok_and(|made| made.as_slice() == [8i64, 5].as_slice()),
-            "space {space}"
-        );
+        assert!(rt; is_made(made, &[8i64, 5]), "space {space}");
         let segments = cut(rt.alloc(), &[1, 2])?;
         assert!(rt; segments.total() == 3);
         let kept = Kept::new(vec![in rt.alloc(); 7i64; space]?);
         let made = packed_lengths(&rt, kept, &mut meter, &flags, &segments);
-        assert!(rt;
-            made.is_ok_and(|made| made.as_slice() == [1i64, 1].as_slice()),
-            "space {space}"
-        );
+        assert!(rt; is_made(made, &[1i64, 1]), "space {space}");
         assert_eq!(rt; meter.runs(), 3);
     }
     Ok(())
@@ -51,13 +43,10 @@ fn truth_values_in_a_kept_vector(rt: HostRuntime) -> Result<(), Fail> {
         let mut meter = Meter::new();
         let kept = Kept::new(vec![in rt.alloc(); true; space]?);
         let made = permute_whole_b(&rt, kept, &mut meter, &[true, false, false], &index);
-        assert!(rt;
-            made.is_ok_and(|made| made.as_slice() == [false, false, true].as_slice()),
-            "space {space}"
-        );
+        assert!(rt; is_made(made, &[false, false, true]), "space {space}");
         let kept = Kept::new(vec![in rt.alloc(); true; space]?);
         let made = pack_b(&rt, kept, &mut meter, &[true, false], &[false, false]);
-        assert!(rt; made.is_ok_and(|made| made.is_empty()), "space {space}");
+        assert!(rt; is_made(made, &[]), "space {space}");
         assert_eq!(rt; meter.runs(), 2);
     }
     Ok(())

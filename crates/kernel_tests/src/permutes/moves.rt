@@ -1,6 +1,7 @@
 //! Permutes and back permutes, of one segment and of several.
 
 use crate::cut::cut;
+use crate::made::is_made;
 use permute_kernels::{
     are_places, back_permute_b, back_permute_z, gather_b, gather_z, in_range, is_permutation,
     is_whole_permutation, permute_b, permute_whole_b, permute_whole_z, permute_z,
@@ -158,15 +159,15 @@ fn gathers_from_one_list(rt: HostRuntime) -> Result<(), Fail> {
     let (items, index) = ([10, 20, 30], [2, 2, 0, 1]);
     assert!(rt; are_places(&index, items.len()));
     let made = gather_z(&rt, rt.alloc(), &mut meter, &items, &index);
-    assert!(rt; made.is_ok_and(|made| made.as_slice() == [30i64, 30, 10, 20].as_slice()));
+    assert!(rt; is_made(made, &[30i64, 30, 10, 20]));
     assert_eq!(rt; meter.runs(), 1);
     let flags = [true, false, false];
     assert!(rt; are_places(&index, flags.len()));
     let made = gather_b(&rt, rt.alloc(), &mut meter, &flags, &index);
-    assert!(rt; made.is_ok_and(|made| made.as_slice() == [false, false, true, false].as_slice()));
+    assert!(rt; is_made(made, &[false, false, true, false]));
     assert!(rt; are_places(&[], 0));
     let made = gather_z(&rt, rt.alloc(), &mut meter, &[], &[]);
-    assert!(rt; made.is_ok_and(|made| made.is_empty()));
+    assert!(rt; is_made(made, &[]));
     assert_eq!(rt; meter.runs(), 3);
     Ok(())
 }
@@ -176,6 +177,6 @@ fn gathers_with_no_runtime(rt: HostRuntime) {
     let mut meter = Meter::new();
     assert!(rt; are_places(&[1, 0], 2));
     let made = gather_z(&Sequential, rt.alloc(), &mut meter, &[5, 6], &[1, 0]);
-    assert!(rt; made.is_ok_and(|made| made.as_slice() == [6i64, 5].as_slice()));
+    assert!(rt; is_made(made, &[6i64, 5]));
     assert_eq!(rt; meter.runs(), 1);
 }

@@ -1,6 +1,7 @@
 //! Kernels that take each part as one segment.
 
 use super::gives;
+use crate::made::is_made;
 use scan_kernels::{
     Index, Meter, Repeat, ScanB, ScanBools, ScanInts, ScanZ, reduce_whole_b_joined,
     reduce_whole_z_joined, run_joined,
@@ -24,11 +25,11 @@ fn reduces_each_part(rt: HostRuntime) -> Result<(), Fail> {
     let mut meter = Meter::new();
     let parts: [&[i64]; 3] = [&[1, 2, 3], &[], &[7]];
     let made = reduce_whole_z_joined(&rt, rt.alloc(), &mut meter, ScanZ::Add, &parts);
-    assert!(rt; made.is_ok_and(|made| made.as_slice() == [6i64, 0, 7].as_slice()));
+    assert!(rt; is_made(made, &[6i64, 0, 7]));
     assert_eq!(rt; meter.runs(), 1);
     let parts: [&[bool]; 2] = [&[], &[true, false]];
     let made = reduce_whole_b_joined(&rt, rt.alloc(), &mut meter, ScanB::And, &parts);
-    assert!(rt; made.is_ok_and(|made| made.as_slice() == [true, false].as_slice()));
+    assert!(rt; is_made(made, &[true, false]));
     assert_eq!(rt; meter.runs(), 2);
     Ok(())
 }
