@@ -1,5 +1,5 @@
 /* Refuses one growth of a program: preloaded, it counts what is allocated or grown between the lines "begin" and "end" that the
-   program writes, and refuses the one of the number in REFUSE. Behind "end" it says in the file of descriptor 3 how many there
+   program writes, or in all its run if REFUSE_ALL is set, and refuses the one of the number in REFUSE. Behind "end" it says in the file of descriptor 3 how many there
    were: not where the program ends, since one that leaves by _exit runs nothing then. */
 #define _GNU_SOURCE
 #include "growths.h"
@@ -19,11 +19,12 @@ __attribute__((constructor)) static void find(void)
     real_write = dlsym(RTLD_NEXT, "write");
     if (number)
         refused = atol(number);
+    between = getenv("REFUSE_ALL") != NULL;
 }
 
 static int refuses_growth(void)
 {
-    return between && ++counted == refused;
+    return between && __atomic_add_fetch(&counted, 1, __ATOMIC_SEQ_CST) == refused;
 }
 
 static void say(void)
@@ -32,6 +33,12 @@ static void say(void)
     int length = snprintf(text, sizeof text, "%ld\n", counted);
     if (pwrite(3, text, (size_t)length, 0) < 0)
         _exit(99);
+}
+
+__attribute__((destructor)) static void leave(void)
+{
+    if (between)
+        say();
 }
 
 ssize_t write(int to, const void *bytes, size_t count)

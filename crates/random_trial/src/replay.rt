@@ -93,9 +93,8 @@ fn is_in_order(alloc: Global, told: &[Told]) -> Option<bool> {
     Some(true)
 }
 
-/// Whether of each entry of a book one caller was told, what the replay of the history tells of the call that it made, and of its own
-/// entries in their order;
-/// whether the book has the memory that the replay ends with, and is found right by its audit.
+/// Whether of each entry of a book one caller was told, what the replay of the history tells of the call that it made, and of its
+/// own entries in their order; whether the book has the memory that the replay ends with, and is found right by its audit.
 pub(crate) fn is_told_right(alloc: Global, book: &Book, told: &[Told]) -> Option<bool> {
     let (replay, end) = replayed(alloc, book)?;
     let memory = memory_text(alloc, book.memory())?;
