@@ -3,14 +3,13 @@
 use Rattle.std.proofs.Common.{◌≡◌, ℕ, Bool, true, false, cond, ◌||◌, List, [], ◌∷◌, Option, Some, None, Result, Ok, Err, refl, sym, ap, ◌∙◌}
 use Rattle.std.specs.List.{AllByRecursion, filter_map}
 use Rattle.std.specs.Map.{lookup, remove_entry}
-use Rattle.std.proofs.lemmas.Cmp.{nat_list_eq_equiv}
-use Rattle.indexmap.specs.IndexMap.{insert_entry}
 use Rattle.vector_memory.specs.declared.name.Name.{Name}
 use Rattle.vector_memory.specs.declared.memory.StoreFault.{StoreFault}
 use Rattle.vector_memory.specs.declared.memory.StoreFault.TheVariants.{NoRoom, TooManyNames, OutOfMemory}
 use Rattle.vector_memory.specs.Contents.{Content}
 use Rattle.vector_memory.specs.Names.{same_name}
 use Rattle.vector_memory.specs.States.{State, value_at, put, refusal}
+use Rattle.vector_memory.proofs.Putting.{apart, lookup-inserted}
 use Rattle.cvl_text.specs.declared.fault.Fault.{Fault}
 use Rattle.cvl_text.specs.Answers.{Answer}
 use Rattle.cvl_text.specs.Tasks.{Task, Argument, Vector, Number, Truth, Numbers, Truths, name_in, target}
@@ -19,21 +18,6 @@ use Rattle.cvl_calls.specs.Steps.{refused, applied, followed, stepped, work_on}
 use Rattle.cvl_calls.specs.Work.{work}
 use Rattle.batch_flatten.specs.Waves.{is_among, clashes}
 use Rattle.batch_flatten.specs.Turns.{memory_after_tasks, answers_after, done_to, memory_done, answers_done, ReadsNoTarget, IsWave}
-
--- a name apart from n is apart from each name that is n
-apart : (k n e : Name) → same_name n e ≡ true → same_name n k ≡ false → same_name k e ≡ false
-apart k n e h f = nat_list_eq_equiv.symm k e ∙ sym (nat_list_eq_equiv.congr n e k h) ∙ f
-
-lookup-inserted : (es : List (Name × Content)) (n k : Name) (v : Content) → same_name n k ≡ false → lookup (same_name k) (insert_entry same_name es n v) ≡ lookup (same_name k) es
-lookup-inserted [] n k v f = ap (λ b. cond {A = Option Content} b (Some v) None) (nat_list_eq_equiv.symm k n ∙ f)
-lookup-inserted (e ∷ es) n k v f = by (same_name n e.0) refl (lookup-inserted es n k v f)
-  where
-    by : (b : Bool) → same_name n e.0 ≡ b → lookup (same_name k) (insert_entry same_name es n v) ≡ lookup (same_name k) es
-        → lookup (same_name k) (cond b ((e.0, v) ∷ es) (e ∷ insert_entry same_name es n v)) ≡ cond (same_name k e.0) (Some e.1) (lookup (same_name k) es)
-    by true h rest =
-        let g = apart k n e.0 h f in
-        ap (λ b. cond b (Some v) (lookup (same_name k) es)) g ∙ sym (ap (λ b. cond b (Some e.1) (lookup (same_name k) es)) g)
-    by false h rest = ap (cond (same_name k e.0) (Some e.1)) rest
 
 lookup-removed : (es : List (Name × Content)) (n k : Name) → same_name n k ≡ false → lookup (same_name k) (remove_entry (same_name n) es) ≡ lookup (same_name k) es
 lookup-removed [] n k f = refl

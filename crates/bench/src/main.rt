@@ -2,8 +2,9 @@
 //! `kernels TAB row TAB cvl TAB nanoseconds an item`, where a row is a kernel and how many items it runs over.
 //! `bench shared` times threads that share a machine, as `rates.rt` and `latencies.rt` say. `bench shared WORDS` prints the rows
 //! of those loads alone whose name begins so, as `bench shared "T=4 len=16"`. `bench batch` times batches, as `batch.rt` says,
-//! and how they are planned, as `plans.rt` says. Without arguments it prints its usage; so it does for other arguments, and for
-//! words with which no load's name begins, with status 2.
+//! and how they are planned, as `plans.rt` says. `bench chunks` times kernels in threads, as `chunks.rt` says, and `bench over`
+//! results that are written over an operand, as `over.rt` says. Without arguments it prints its usage; so it does for other
+//! arguments, and for words with which no load's name begins, with status 2.
 #![tactic(auto)]
 
 mod batch;
@@ -14,6 +15,7 @@ mod inputs;
 mod latencies;
 mod load;
 mod operands;
+mod over;
 mod plans;
 mod rates;
 mod runs;
@@ -30,7 +32,7 @@ use std::rt::Clock;
 use std::thread::Threads;
 use std::{env, io};
 
-const USAGE: &str = "usage: bench kernels|shared [WORDS]|batch|chunks";
+const USAGE: &str = "usage: bench kernels|shared [WORDS]|batch|chunks|over";
 
 /// How many items the kernels run over.
 const SIZES: [u32; 4] = [1_000, 32_000, 1_000_000, 16_000_000];
@@ -60,6 +62,7 @@ enum Asked {
     Shared(String),
     Batch,
     Chunks,
+    Over,
     Unknown,
 }
 
@@ -79,6 +82,7 @@ fn read_arguments(rt: &HostRuntime) -> io::Result<Asked> {
         ("shared", Some(words)) => Asked::Shared(words),
         ("batch", None) => Asked::Batch,
         ("chunks", None) => Asked::Chunks,
+        ("over", None) => Asked::Over,
         _ => Asked::Unknown,
     })
 }
@@ -102,6 +106,7 @@ fn main(rt: HostRuntime) -> io::Result<ExitCode> {
             batch::rows(&rt)?;
         }
         Asked::Chunks => chunks::rows(&rt)?,
+        Asked::Over => over::rows(&rt)?,
         Asked::Usage => println!(rt; "{USAGE}")?,
         Asked::Unknown => return refuse(&rt),
     }

@@ -9,6 +9,8 @@ mod calls;
 #[cfg(test)]
 mod memories;
 #[cfg(test)]
+mod overwriting;
+#[cfg(test)]
 mod refused;
 #[cfg(test)]
 mod texts;

@@ -5,6 +5,8 @@
 
 mod books;
 mod calls;
+mod machines;
+mod parts;
 mod texts;
 mod values;
 

@@ -9,6 +9,7 @@ ghost use Rattle.cvl_calls.specs.Work.{work};
 ghost use Rattle.cvl_calls.specs.Runs.{TakesNoMemory, runs_kernel, tests_index};
 
 use crate::judging::judge;
+use crate::over::{goes_over, step_over};
 use crate::product::Product;
 use crate::running::run_with;
 use crate::spare::Spare;
@@ -187,10 +188,17 @@ pub fn step_with(
     ensures err { OnErr result (memory.new ≡ memory.old) }
     ensures counted { CountsStep (runs_on memory.old (task_of call.now)) result meter.old meter.new }
 {
-    match work_with(execution, alloc, meter, spare, memory, call) {
+    let judged = match judge(alloc, memory, call) {
+        Ok(judged) => judged,
+        Err(Stop::Fault(fault)) => return Ok(Reply::Fault(fault)),
+        Err(Stop::OutOfMemory) => return Err(OutOfMemory),
+    };
+    if goes_over(execution, meter, &spare, memory, call, &judged) {
+        return Ok(step_over(alloc, meter, memory, call));
+    }
+    match run_with(execution, alloc, meter, spare, judged) {
         Ok(product) => apply_with(spare, memory, target(call), product),
-        Err(Stop::Fault(fault)) => Ok(Reply::Fault(fault)),
-        Err(Stop::OutOfMemory) => Err(OutOfMemory),
+        Err(OutOfMemory) => Err(OutOfMemory),
     }
 }
 

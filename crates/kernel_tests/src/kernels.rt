@@ -4,6 +4,7 @@ mod chunks;
 mod elementwise;
 mod joined;
 mod kept;
+mod overwriting;
 mod policies;
 mod scans;
 mod spreads;

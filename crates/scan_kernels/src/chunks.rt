@@ -33,6 +33,21 @@ pub(crate) fn write_size<T: Copy>(
     chunk_size(execution, meter.chunk(), count, pays)
 }
 
+/// From how many items on it repays a caller to look up its operands once more and write a result over one of them, in place of
+/// into a vector that was kept: found by `bench over`.
+pub const OVERWRITES_PAY: usize = 16_384;
+
+/// Whether a kernel that goes item by item is faster where it writes its result over an operand: many items, which do not go by
+/// chunks.
+pub fn overwrites_pay(
+    execution: &impl Execution,
+    source: &impl Source<i64>,
+    meter: &Meter,
+    count: usize,
+) -> bool {
+    count >= OVERWRITES_PAY && write_size(execution, source, meter, count).is_none()
+}
+
 /// The size of the chunks of more items than one chunk has.
 pub(crate) fn chunk_size(
     execution: &impl Execution,

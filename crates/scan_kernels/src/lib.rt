@@ -24,6 +24,7 @@ mod lists;
 mod map;
 mod meter;
 mod moves;
+mod overwrite;
 mod place;
 mod placewise;
 mod reduce;
@@ -39,7 +40,9 @@ mod singles;
 mod source;
 mod whole;
 
-pub use chunks::{bools_by_chunks, gather_size, ints_by_chunks, permute_size};
+pub use chunks::{
+    OVERWRITES_PAY, bools_by_chunks, gather_size, ints_by_chunks, overwrites_pay, permute_size,
+};
 pub use compare::compare2;
 pub use conditions::{divisors_ok, shifts_ok};
 pub use convert::{number, truth};
@@ -63,6 +66,7 @@ pub use lists::{
 pub use map::{map1_b, map1_z, map2_b, map2_z};
 pub use meter::{DEFAULT_CHUNK, Meter};
 pub use moves::{Gathered, Permuted};
+pub use overwrite::{map2_z_over_first, map2_z_over_second};
 pub use place::{is_place, place_of};
 pub use reduce::{reduce_b, reduce_z};
 pub use reductions::{ReducedBools, ReducedInts};

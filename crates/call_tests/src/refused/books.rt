@@ -3,7 +3,7 @@
 use super::{ROOM, begin, each_word, end, holds, memory_text, opening, replied, text_of};
 use call_history::Book;
 use cvl_text::{Call, Reply};
-use scan_kernels::Sequential;
+use scan_kernels::{Meter, Sequential};
 use std::alloc::{Alloc, Global};
 use std::process::Abort;
 use std::test::Fail;
@@ -20,17 +20,22 @@ fn new_book<R: Alloc<A = Global> + Print>(rt: &R) -> Result<Book, Fail> {
     Ok(Book::new(rt.alloc(), ROOM)?)
 }
 
-/// The reply to a line, and its place. None where memory is refused.
-fn answer<R: Alloc<A = Global> + Print>(
+/// The reply to a line, and its place. None where memory is refused, of which the meter may have counted a kernel.
+fn answer<R: Abort + Alloc<A = Global> + Print>(
     rt: &R,
     book: &mut Book,
     line: &str,
 ) -> Result<Option<(u64, Reply)>, Fail> {
     let call = Call::read(rt.alloc(), line.as_bytes())?;
+    let mut meter = Meter::new();
     begin(rt)?;
-    let ran = book.run(&Sequential, rt.alloc(), 0, call);
+    let ran = book.run_metered(&Sequential, rt.alloc(), &mut meter, 0, call);
     end(rt)?;
-    Ok(ran.ok())
+    if let Ok(answer) = ran {
+        return Ok(Some(answer));
+    }
+    assert!(rt; meter.runs() <= 1);
+    Ok(None)
 }
 
 /// The same of a line that is refused nothing.

@@ -10,7 +10,7 @@ use std::test::Fail;
 use vector_memory::{Memory, OutOfMemory};
 
 /// What is replied to a line, as text. Where memory is refused the memory has not changed, and the line is run again.
-fn settled<R: Abort + Alloc<A = Global>>(
+pub(super) fn settled<R: Abort + Alloc<A = Global>>(
     rt: &R,
     memory: &mut Memory,
     line: &str,
@@ -57,7 +57,7 @@ fn stepped_with<R: Abort + Alloc<A = Global> + Print>(
 }
 
 /// Asserts that another memory replies to a line likewise, and that both hold the same.
-fn agrees<R: Abort + Alloc<A = Global>>(
+pub(super) fn agrees<R: Abort + Alloc<A = Global>>(
     rt: &R,
     memory: &Memory,
     other: &mut Memory,

@@ -38,16 +38,35 @@ fn numbered(alloc: Global, number: u32) -> Result<Name, Fail> {
     Ok(Name::read(text.as_bytes()).ok_or("no name")?)
 }
 
+/// Stores a value under a new name, by one of the two calls for it.
+fn store(
+    memory: &mut Memory,
+    name: Name,
+    value: Value,
+    is_given_back: bool,
+) -> Result<(), StoreFault>
+    requires { FitsLimits memory.old.limit (content_of value) }
+{
+    if !is_given_back {
+        return memory.store(name, value);
+    }
+    match memory.replace(name, value) {
+        Ok(_) => Ok(()),
+        Err(fault) => Err(fault),
+    }
+}
+
 /// Stores a value under a new name. Where memory is refused the memory has not changed, and the value is stored again.
 fn stores<R: Abort + Alloc<A = Global> + Print>(
     rt: &R,
     memory: &mut Memory,
     name: Name,
+    is_given_back: bool,
 ) -> Result<(), Fail> {
     let before = memory_text(rt.alloc(), memory)?;
     let value = seven(rt.alloc(), memory.limit())?;
     begin(rt)?;
-    let stored = memory.store(name, value);
+    let stored = store(memory, name, value, is_given_back);
     end(rt)?;
     let Err(fault) = stored else {
         return Ok(());
@@ -58,13 +77,13 @@ fn stores<R: Abort + Alloc<A = Global> + Print>(
     Ok(memory.store(name, value)?)
 }
 
-/// As many names as make the map grow twice.
+/// As many names as make the map grow twice. Every other one is stored by the call that gives back what it replaced.
 #[test]
 fn stores_new_names(rt: HostRuntime) -> Result<(), Fail> {
     let mut memory = new_memory(&rt)?;
     for number in 0..70 {
         let name = numbered(rt.alloc(), number)?;
-        stores(&rt, &mut memory, name)?;
+        stores(&rt, &mut memory, name, number % 2 == 1)?;
     }
     assert!(rt; memory.len() == 70 && memory.cells() == 70);
     Ok(())

@@ -1,0 +1,69 @@
+//! The rows of results that are written over an operand: `a = add_wuz a b` beside `c = add_wuz a b`, whose result goes into a
+//! vector that was kept. They are calls on a book, in one thread, and take turns; of each the least time counts.
+
+use call_history::Book;
+use cvl_text::Call;
+use scan_kernels::Sequential;
+use std::alloc::Global;
+use std::io::{self, ErrorKind};
+use std::rt::Clock;
+use std::time::Instant;
+
+/// How many items the vectors have.
+const SIZES: [u32; 9] = [
+    4_096, 8_192, 16_384, 32_768, 65_536, 131_072, 262_144, 524_288, 1_000_000,
+];
+
+/// How many times each way is timed.
+const REPEATS: u32 = 300;
+
+/// The room of the book.
+const ROOM: u64 = 4_000_000;
+
+/// Runs a line: the time in nanoseconds.
+fn time(rt: &impl Clock, alloc: Global, book: &mut Book, line: &str) -> io::Result<u32> {
+    let Ok(call) = Call::read(alloc, line.as_bytes()) else {
+        return Err(io::Error::from(ErrorKind::InvalidInput));
+    };
+    let start = Instant::now(rt)?;
+    let ran = book.run(&Sequential, alloc, 0, call);
+    let elapsed = start.elapsed(rt)?.as_nanos();
+    if ran.is_err() {
+        return Err(io::Error::from(ErrorKind::OutOfMemory));
+    }
+    Ok(u32::try_from(elapsed).unwrap_or(u32::MAX))
+}
+
+/// A book with two vectors of so many items.
+fn book_of(rt: &impl Clock, alloc: Global, size: u32) -> io::Result<Book> {
+    let Ok(mut book) = Book::new(alloc, ROOM) else {
+        return Err(io::Error::from(ErrorKind::OutOfMemory));
+    };
+    let first = format!(in alloc; "a = ind_luz 0 1 {size}")?;
+    let second = format!(in alloc; "b = dis_vuz 7 {size}")?;
+    time(rt, alloc, &mut book, first.as_str())?;
+    time(rt, alloc, &mut book, second.as_str())?;
+    Ok(book)
+}
+
+/// The least time of both ways, in nanoseconds.
+fn least(rt: &impl Clock, alloc: Global, book: &mut Book) -> io::Result<(u32, u32)> {
+    let mut least = (u32::MAX, u32::MAX);
+    for _repeat in 0..REPEATS {
+        let over = time(rt, alloc, book, "a = add_wuz a b")?;
+        let kept = time(rt, alloc, book, "c = add_wuz a b")?;
+        least = (least.0.min(over), least.1.min(kept));
+    }
+    Ok(least)
+}
+
+/// Prints for each number of items the nanoseconds of a call either way.
+pub fn rows<R: Alloc<A = Global> + Clock + Print>(rt: &R) -> io::Result<()> {
+    for size in SIZES {
+        let mut book = book_of(rt, rt.alloc(), size)?;
+        let (over, kept) = least(rt, rt.alloc(), &mut book)?;
+        println!(rt; "over\tadd/{size}\tover an operand\t{over}")?;
+        println!(rt; "over\tadd/{size}\tinto a kept vector\t{kept}")?;
+    }
+    Ok(())
+}

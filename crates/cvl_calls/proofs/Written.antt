@@ -1,0 +1,54 @@
+-- A result that is written over an operand: the vectors that are taken out of the memory are those that the call reads (`same_ints`,
+-- `other_stays`), and putting the result back is the call's step (`applied_over`).
+use Rattle.std.proofs.Common.{◌≡◌, ℤ, List, [], length, Bool, true, false, Option, Some, None, Ok, refl, sym, ap, ◌∙◌}
+use Rattle.std.specs.Prelude.{◌==◌}
+use Rattle.std.proofs.lemmas.Bool.{eq-eqb}
+use Rattle.item_operations.specs.declared.operation.Z2.{Z2}
+use Rattle.item_operations.specs.IntegerOps.{apply_z}
+use Rattle.scan_kernels.specs.Elementwise.{item_by_item}
+use Rattle.scan_kernels.proofs.Placed.{paired_long}
+use Rattle.vector_memory.specs.declared.name.Name.{Name}
+use Rattle.vector_memory.specs.Contents.{Content, Ints}
+use Rattle.vector_memory.specs.Names.{same_name}
+use Rattle.vector_memory.specs.States.{State, value_at, put, refusal}
+use Rattle.vector_memory.proofs.Putting.{lookup-inserted, put-put}
+use Rattle.cvl_text.specs.Answers.{Done}
+use Rattle.cvl_calls.specs.Conditions.{seconds}
+use Rattle.cvl_calls.specs.Operands.{integers}
+use Rattle.cvl_calls.specs.Outcomes.{Effect, Held, Stores}
+use Rattle.cvl_calls.specs.Over.{CanApply}
+use Rattle.cvl_calls.specs.Steps.{Stepped, followed, refused}
+use Rattle.cvl_calls.specs.Work.{map_two}
+
+abbrev ints_of : Option Content → List ℤ
+ints_of (Some (Ints xs)) = xs
+ints_of other = []
+
+-- a name stands for one vector
+pub same_ints : (o : Option Content) (xs ys : List ℤ) → o ≡ Some (Ints xs) → o ≡ Some (Ints ys) → xs ≡ ys
+same_ints o xs ys a b = ap ints_of (sym a ∙ b)
+
+-- what is made of two vectors of one length is as long as the second
+pub as_long : (op : ℤ → ℤ → ℤ) (xs ys : List ℤ) → length xs ≡ length ys → length (item_by_item op xs ys) ≡ length ys
+as_long op xs ys same = paired_long (λ (p : ℤ × ℤ). op p.0 p.1) xs ys same ∙ same
+
+-- another name stands for what it stood for
+pub other_stays : (m held : State) (n k : Name) (between : Content) (o : Option Content) → same_name n k ≡ false → held ≡ put m n between → value_at m k ≡ o → value_at held k ≡ o
+other_stays m held n k between o apart was is = ap (λ (s : State). value_at s k) was ∙ lookup-inserted m.entries n k between apart ∙ is
+
+worked : (op : Z2) (xs ys : List ℤ) → length xs ≡ length ys → seconds op ys ≡ Ok tt
+    → map_two integers integers (seconds op) (apply_z op) (Held (Some (Ints xs))) (Held (Some (Ints ys))) ≡ Ok (Stores (Ints (item_by_item (apply_z op) xs ys)))
+unfolding map_two
+worked op xs ys same taken = rw (eq-eqb (length xs) (length ys) same, taken) refl
+
+-- what an operation on the integers of two names makes
+pub applies : (m : State) (op : Z2) (a b : Name) (can : CanApply m op a b)
+    → map_two integers integers (seconds op) (apply_z op) (Held (value_at m a)) (Held (value_at m b)) ≡ Ok (Stores (Ints (item_by_item (apply_z op) can.left can.right)))
+applies m op a b can = rw (can.left_is, can.right_is) (worked op can.left can.right can.same can.taken)
+
+-- The result of a call stands at its target, also where the target held something else between.
+pub applied_over : (m held after : State) (to : Name) (between v w : Content) → refusal m to v ≡ None → held ≡ put m to between → after ≡ put held to w → w ≡ v
+    → followed m (Some to) (Ok (Stores v)) ≡ record { memory = after; answer = Done }
+applied_over m held after to between v w accepted was is same =
+    let written : after ≡ put m to v = is ∙ ap (λ (s : State). put s to w) was ∙ put-put m to between w ∙ ap (put m to) same in
+    ap (λ why. refused m why (put m to v)) accepted ∙ ap (λ (s : State). record { memory = s; answer = Done }) (sym written)
