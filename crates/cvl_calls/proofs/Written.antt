@@ -1,10 +1,16 @@
 -- A result that is written over an operand: the vectors that are taken out of the memory are those that the call reads (`same_ints`,
 -- `other_stays`), and putting the result back is the call's step (`applied_over`).
-use Rattle.std.proofs.Common.{◌≡◌, ℤ, List, [], length, Bool, true, false, Option, Some, None, Ok, refl, sym, ap, ◌∙◌}
+use Rattle.std.proofs.Common.{◌≡◌, ℤ, List, [], length, map, Bool, true, false, Option, Some, None, Ok, refl, sym, ap, ◌∙◌}
 use Rattle.std.specs.Prelude.{◌==◌}
 use Rattle.std.proofs.lemmas.Bool.{eq-eqb}
+use Rattle.std.proofs.lemmas.List.{length-map}
+use Rattle.item_operations.specs.declared.operation.Z1.{Z1}
 use Rattle.item_operations.specs.declared.operation.Z2.{Z2}
-use Rattle.item_operations.specs.IntegerOps.{apply_z}
+use Rattle.item_operations.specs.declared.combine.ScanZ.{ScanZ}
+use Rattle.item_operations.specs.IntegerOps.{alter_z, apply_z}
+use Rattle.item_operations.specs.IntegerScans.{combine_z, unit_z}
+use Rattle.scan_kernels.specs.Segmented.{scanned}
+use Rattle.scan_kernels.proofs.Scanned.{length-scanned}
 use Rattle.scan_kernels.specs.Elementwise.{item_by_item}
 use Rattle.scan_kernels.proofs.Placed.{paired_long}
 use Rattle.vector_memory.specs.declared.name.Name.{Name}
@@ -16,9 +22,11 @@ use Rattle.cvl_text.specs.Answers.{Done}
 use Rattle.cvl_calls.specs.Conditions.{seconds}
 use Rattle.cvl_calls.specs.Operands.{integers}
 use Rattle.cvl_calls.specs.Outcomes.{Effect, Held, Stores}
-use Rattle.cvl_calls.specs.Over.{CanApply}
+use Rattle.cvl_calls.specs.Over.{CanApply, made_by}
+use Rattle.cvl_calls.specs.declared.over.one.Change.{Change}
+use Rattle.cvl_calls.specs.declared.over.one.Change.TheVariants as changes
 use Rattle.cvl_calls.specs.Steps.{Stepped, followed, refused}
-use Rattle.cvl_calls.specs.Work.{map_two}
+use Rattle.cvl_calls.specs.Work.{map_one, map_two, scan}
 
 abbrev ints_of : Option Content → List ℤ
 ints_of (Some (Ints xs)) = xs
@@ -31,6 +39,19 @@ same_ints o xs ys a b = ap ints_of (sym a ∙ b)
 -- what is made of two vectors of one length is as long as the second
 pub as_long : (op : ℤ → ℤ → ℤ) (xs ys : List ℤ) → length xs ≡ length ys → length (item_by_item op xs ys) ≡ length ys
 as_long op xs ys same = paired_long (λ (p : ℤ × ℤ). op p.0 p.1) xs ys same ∙ same
+
+-- what is made of one vector is as long
+pub as_long_as_one : (change : Change) (xs : List ℤ) → length (made_by change xs) ≡ length xs
+as_long_as_one (changes.Alter op) xs = length-map xs (alter_z op)
+as_long_as_one (changes.Scan op) xs = length-scanned (combine_z op) (unit_z op) xs
+
+pub altered : (op : Z1) (xs : List ℤ) → map_one integers integers (alter_z op) (Held (Some (Ints xs))) ≡ Ok (Stores (Ints (map (alter_z op) xs)))
+unfolding map_one
+altered op xs = refl
+
+pub scanned_whole : (op : ScanZ) (xs : List ℤ) → scan integers (combine_z op) (unit_z op) (Held (Some (Ints xs))) ≡ Ok (Stores (Ints (scanned (combine_z op) (unit_z op) xs)))
+unfolding scan
+scanned_whole op xs = refl
 
 -- another name stands for what it stood for
 pub other_stays : (m held : State) (n k : Name) (between : Content) (o : Option Content) → same_name n k ≡ false → held ≡ put m n between → value_at m k ≡ o → value_at held k ≡ o

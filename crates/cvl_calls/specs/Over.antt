@@ -1,7 +1,9 @@
 -- Calls whose result may be written over an operand.
-use Rattle.std.specs.Prelude.{◌≡◌, ℤ, List, length, All, Some, Ok, not}
+use Rattle.std.specs.Prelude.{◌≡◌, ℤ, List, length, map, All, None, Some, Ok, not, true}
 use Rattle.item_operations.specs.declared.operation.Z2.{Z2}
-use Rattle.item_operations.specs.IntegerOps.{IsAllowed}
+use Rattle.item_operations.specs.IntegerOps.{IsAllowed, alter_z}
+use Rattle.item_operations.specs.IntegerScans.{combine_z, unit_z}
+use Rattle.scan_kernels.specs.Segmented.{scanned}
 use Rattle.vector_memory.specs.declared.name.Name.{Name}
 use Rattle.vector_memory.specs.Contents.{Ints}
 use Rattle.vector_memory.specs.Names.{same_name}
@@ -9,6 +11,8 @@ use Rattle.vector_memory.specs.States.{State, value_at}
 use Rattle.cvl_text.specs.declared.call.Call.{Call}
 use Rattle.cvl_text.specs.declared.call.Call.TheVariants as calls
 use Rattle.cvl_calls.specs.Conditions.{seconds}
+use Rattle.cvl_calls.specs.declared.over.one.Change.{Change}
+use Rattle.cvl_calls.specs.declared.over.one.Change.TheVariants as changes
 
 -- The operation can be applied item by item to the integers of two names.
 pub record CanApply (m : State) (op : Z2) (a b : Name) : Type 0 where
@@ -20,7 +24,18 @@ pub record CanApply (m : State) (op : Z2) (a b : Name) : Type 0 where
   pub allowed : All (IsAllowed op) right
   pub taken : seconds op right ≡ Ok tt
 
--- One of the two vectors of a call item by item lies at its target, and the other does not.
+-- a name stands for integers
+abbrev pub IsInts : State → Name → Type 0
+IsInts m a = (xs : List ℤ) × (value_at m a ≡ Some (Ints xs))
+
+-- what a call makes of one vector
+abbrev pub made_by : Change → List ℤ → List ℤ
+made_by (changes.Alter op) xs = map (alter_z op) xs
+made_by (changes.Scan op) xs = scanned (combine_z op) (unit_z op) xs
+
+-- One vector of a call item by item, or of a scan, lies at its target, and the other, if there are two, does not.
 abbrev pub GoesOver : State → Call → Type 0
 GoesOver m (calls.MapZ2 op to a b) = CanApply m op a b × (same_name to a ≡ not (same_name to b))
+GoesOver m (calls.MapZ1 op to a) = IsInts m to × (same_name to a ≡ true)
+GoesOver m (calls.ScanOfZ op to a None) = IsInts m to × (same_name to a ≡ true)
 GoesOver m other = ⊥

@@ -66,7 +66,7 @@ pub use lists::{
 pub use map::{map1_b, map1_z, map2_b, map2_z};
 pub use meter::{DEFAULT_CHUNK, Meter};
 pub use moves::{Gathered, Permuted};
-pub use overwrite::{map2_z_over_first, map2_z_over_second};
+pub use overwrite::{map1_z_over, map2_z_over_first, map2_z_over_second, scan_whole_z_over};
 pub use place::{is_place, place_of};
 pub use reduce::{reduce_b, reduce_z};
 pub use reductions::{ReducedBools, ReducedInts};

@@ -1,13 +1,15 @@
-//! Kernels that go item by item and write their result over an operand, in the calling thread. They take no memory.
+//! Kernels that go item by item, or scan, and write their result over an operand, in the calling thread. They take no memory.
 
-ghost use Rattle.std.specs.Prelude.{◌≡◌, List, Some, length, slice_get, All};
-ghost use Rattle.item_operations.specs.IntegerOps.{IsAllowed, apply_z};
+ghost use Rattle.std.specs.Prelude.{◌≡◌, List, Some, length, map, slice_get, All};
+ghost use Rattle.item_operations.specs.IntegerOps.{IsAllowed, alter_z, apply_z};
+ghost use Rattle.item_operations.specs.IntegerScans.{combine_z, unit_z};
 ghost use Rattle.scan_kernels.specs.Elementwise.{item_by_item};
 ghost use Rattle.scan_kernels.specs.Metering.{raised};
+ghost use Rattle.scan_kernels.specs.Segmented.{scanned};
 
-use crate::choices::{by_name, by_z2};
+use crate::choices::{by_name, by_scan_z, by_z1, by_z2};
 use crate::meter::Meter;
-use item_operations::Z2;
+use item_operations::{Combine, ScanZ, Z1, Z2};
 
 /// What becomes of each item of a list: an operation with its other operand, lent.
 pub trait Overwrite<T> {
@@ -33,6 +35,23 @@ pub(crate) fn write_over<T: Copy, L: Overwrite<T>>(change: &L, list: &mut [T])
 {
     for i in 0..list.len() {
         list[i] = change.at(i, list[i]);
+    }
+}
+
+/// The operation on each integer.
+#[derive(Clone, Copy)]
+struct Alter {
+    op: Z1,
+}
+
+impl Overwrite<i64> for Alter {
+    ghost Fits = { λ l items. Unit {0} };
+
+    ghost after = { λ l items. map (alter_z l.op) items };
+
+    #[inline(always)]
+    fn at(&self, _place: usize, item: i64) -> i64 {
+        self.op.apply(item)
     }
 }
 
@@ -72,6 +91,37 @@ impl Overwrite<i64> for ApplyBehind<'_> {
     fn at(&self, place: usize, item: i64) -> i64 {
         self.op.apply(self.left[place], item)
     }
+}
+
+/// Writes over each item of a list what the items before it come to.
+#[inline(always)]
+fn scan_over<O: Combine>(op: O, list: &mut [O::Item])
+    ensures { list.new ≡ scanned (O.combined op) (O.unit_of op) list.old }
+{
+    let mut so_far = op.unit();
+    for i in 0..list.len() {
+        let item = list[i];
+        list[i] = so_far;
+        so_far = op.combine(so_far, item);
+    }
+}
+
+/// `map1_z` in the calling thread, whose result is written over the vector.
+pub fn map1_z_over(meter: &mut Meter, op: Z1, a: &mut [i64])
+    ensures map { a.new ≡ map (alter_z op) a.old }
+    ensures counted { meter.new ≡ raised meter.old }
+{
+    by_z1!(op, write_over(&Alter { op }, a));
+    meter.raise();
+}
+
+/// `scan_whole_z` in the calling thread, whose result is written over the vector.
+pub fn scan_whole_z_over(meter: &mut Meter, op: ScanZ, a: &mut [i64])
+    ensures scan { a.new ≡ scanned (combine_z op) (unit_z op) a.old }
+    ensures counted { meter.new ≡ raised meter.old }
+{
+    by_scan_z!(op, scan_over(op, a));
+    meter.raise();
 }
 
 /// `map2_z` in the calling thread, whose result is written over the first vector.

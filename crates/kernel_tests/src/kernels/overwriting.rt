@@ -1,6 +1,9 @@
 //! Kernels whose result is written over an operand.
 
-use scan_kernels::{Meter, Sequential, Z2, map2_z_over_first, map2_z_over_second, overwrites_pay};
+use scan_kernels::{
+    Meter, ScanZ, Sequential, Z1, Z2, map1_z_over, map2_z_over_first, map2_z_over_second,
+    overwrites_pay, scan_whole_z_over,
+};
 use std::process::Abort;
 
 #[test]
@@ -18,6 +21,24 @@ fn writes_over_the_second_vector(rt: HostRuntime) {
     let mut list = [10, 2, 3];
     map2_z_over_second(&mut meter, Z2::Sub, &[1, 20, 3], &mut list);
     assert!(rt; list.as_slice() == [-9i64, 18, 0].as_slice());
+    assert_eq!(rt; meter.runs(), 1);
+}
+
+#[test]
+fn writes_over_one_vector(rt: HostRuntime) {
+    let mut meter = Meter::new();
+    let mut list = [1, 20, 3];
+    map1_z_over(&mut meter, Z1::Not, &mut list);
+    assert!(rt; list.as_slice() == [-2i64, -21, -4].as_slice());
+    assert_eq!(rt; meter.runs(), 1);
+}
+
+#[test]
+fn scans_over_a_vector(rt: HostRuntime) {
+    let mut meter = Meter::new();
+    let mut list = [1, 20, 3];
+    scan_whole_z_over(&mut meter, ScanZ::Add, &mut list);
+    assert!(rt; list.as_slice() == [0i64, 1, 21].as_slice());
     assert_eq!(rt; meter.runs(), 1);
 }
 

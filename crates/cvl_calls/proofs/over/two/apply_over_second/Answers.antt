@@ -9,7 +9,7 @@ use Rattle.vector_memory.proofs.StateLemmas.{value_at-fits}
 use Rattle.cvl_calls.specs.Steps.{followed}
 use Rattle.cvl_calls.proofs.Sizes.{length-item_by_item}
 use Rattle.cvl_calls.proofs.Written.{same_ints, other_stays, applies, applied_over}
-use Rattle.cvl_calls.proofs.over.apply_over_second.Goals as goal
+use Rattle.cvl_calls.proofs.over.two.apply_over_second.Goals as goal
 
 pub unreachable-requires : goal.unreachable-requires
 unreachable-requires c =

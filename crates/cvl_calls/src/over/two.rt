@@ -1,0 +1,142 @@
+//! A call on two vectors whose result is written over one of them.
+
+ghost use Rattle.std.specs.Prelude.{◌≡◌, Some, true, false, not, is_ok, length, All, IsTrue};
+ghost use Rattle.item_operations.specs.IntegerOps.{IsAllowed, apply_z};
+ghost use Rattle.scan_kernels.specs.Elementwise.{item_by_item};
+ghost use Rattle.scan_kernels.specs.Metering.{raised};
+ghost use Rattle.vector_memory.specs.Names.{same_name};
+ghost use Rattle.vector_memory.specs.States.{value_at};
+ghost use Rattle.cvl_text.specs.Answers.{Done};
+ghost use Rattle.cvl_calls.specs.Conditions.{seconds};
+ghost use Rattle.cvl_calls.specs.Operands.{integers};
+ghost use Rattle.cvl_calls.specs.Outcomes.{Held};
+ghost use Rattle.cvl_calls.specs.Over.{CanApply};
+ghost use Rattle.cvl_calls.specs.Steps.{followed};
+ghost use Rattle.cvl_calls.specs.Work.{map_two};
+
+use crate::conditions::seconds;
+use crate::over::held::{give, lent, take};
+use cvl_text::Z2;
+use scan_kernels::{Meter, map2_z_over_first, map2_z_over_second};
+use std::alloc::Global;
+use vector_memory::laws::memories_are_lawful;
+use vector_memory::{Memory, Name};
+
+/// Whether the operation can be applied to the integers of two names.
+pub(crate) fn can_apply(memory: &Memory, op: Z2, a: &Name, b: &Name) -> bool
+    ensures { IsTrue result → CanApply memory.now op a.now b.now }
+{
+    let Some(xs) = lent(memory, a) else {
+        return false;
+    };
+    let Some(ys) = lent(memory, b) else {
+        return false;
+    };
+    if xs.len() != ys.len() {
+        return false;
+    }
+    match seconds(op, ys) {
+        Ok(()) => true,
+        Err(_) => false,
+    }
+}
+
+/// The first vector, with the result written over its items.
+fn over_first(meter: &mut Meter, op: Z2, xs: Vec<i64>, ys: &[i64]) -> Vec<i64>
+    requires same_length { length xs.items ≡ length ys.now }
+    requires allowed { All (IsAllowed op) ys.now }
+    ensures items { result.items ≡ item_by_item (apply_z op) xs.items ys.now }
+    ensures counted { meter.new ≡ raised meter.old }
+{
+    let mut made = xs;
+    map2_z_over_first(meter, op, made.as_mut_slice(), ys);
+    made
+}
+
+/// Applies the operation to the integers of two names, and writes the result over the first.
+fn apply_over_first(
+    alloc: Global,
+    meter: &mut Meter,
+    memory: &mut Memory,
+    op: Z2,
+    to: Name,
+    b: &Name,
+)
+    requires apart { same_name to b.now ≡ false }
+    requires can { CanApply memory.old op to b.now }
+    ensures step { followed memory.old (Some to) (map_two integers integers (seconds op) (apply_z op) (Held (value_at memory.old to)) (Held (value_at memory.old b.now)))
+        ≡ record { memory = memory.new; answer = Done } }
+    ensures works { is_ok (map_two integers integers (seconds op) (apply_z op) (Held (value_at memory.old to)) (Held (value_at memory.old b.now))) ≡ true }
+    ensures counted { meter.new ≡ raised meter.old }
+{
+    memories_are_lawful(memory);
+    let xs = take(alloc, memory, to);
+    let Some(ys) = lent(memory, b) else {
+        unreachable!()
+    };
+    let made = over_first(meter, op, xs, ys);
+    give(memory, to, made);
+}
+
+/// The second vector, with the result written over its items.
+#[tactic(auto, using(crate::proofs::Written::as_long))]
+fn over_second(meter: &mut Meter, op: Z2, xs: &[i64], ys: Vec<i64>) -> Vec<i64>
+    requires same_length { length xs.now ≡ length ys.items }
+    requires allowed { All (IsAllowed op) ys.items }
+    ensures items { result.items ≡ item_by_item (apply_z op) xs.now ys.items }
+    ensures long { length result.items ≡ length ys.items }
+    ensures counted { meter.new ≡ raised meter.old }
+{
+    let mut made = ys;
+    map2_z_over_second(meter, op, xs, made.as_mut_slice());
+    made
+}
+
+/// Applies the operation to the integers of two names, and writes the result over the second.
+fn apply_over_second(
+    alloc: Global,
+    meter: &mut Meter,
+    memory: &mut Memory,
+    op: Z2,
+    a: &Name,
+    to: Name,
+)
+    requires apart { same_name to a.now ≡ false }
+    requires can { CanApply memory.old op a.now to }
+    ensures step { followed memory.old (Some to) (map_two integers integers (seconds op) (apply_z op) (Held (value_at memory.old a.now)) (Held (value_at memory.old to)))
+        ≡ record { memory = memory.new; answer = Done } }
+    ensures works { is_ok (map_two integers integers (seconds op) (apply_z op) (Held (value_at memory.old a.now)) (Held (value_at memory.old to))) ≡ true }
+    ensures counted { meter.new ≡ raised meter.old }
+{
+    memories_are_lawful(memory);
+    let ys = take(alloc, memory, to);
+    let Some(xs) = lent(memory, a) else {
+        unreachable!()
+    };
+    let made = over_second(meter, op, xs, ys);
+    give(memory, to, made);
+}
+
+/// The step of `to = OP a b`, where either `a` or `b` is the target.
+pub(crate) fn map_over(
+    alloc: Global,
+    meter: &mut Meter,
+    memory: &mut Memory,
+    op: Z2,
+    to: Name,
+    a: &Name,
+    b: &Name,
+)
+    requires can { CanApply memory.old op a.now b.now }
+    requires either { same_name to a.now ≡ not (same_name to b.now) }
+    ensures step { followed memory.old (Some to) (map_two integers integers (seconds op) (apply_z op) (Held (value_at memory.old a.now)) (Held (value_at memory.old b.now)))
+        ≡ record { memory = memory.new; answer = Done } }
+    ensures works { is_ok (map_two integers integers (seconds op) (apply_z op) (Held (value_at memory.old a.now)) (Held (value_at memory.old b.now))) ≡ true }
+    ensures counted { meter.new ≡ raised meter.old }
+{
+    if to == *a {
+        apply_over_first(alloc, meter, memory, op, to, b);
+    } else {
+        apply_over_second(alloc, meter, memory, op, a, to);
+    }
+}
