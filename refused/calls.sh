@@ -1,6 +1,6 @@
 #!/bin/sh
-# refused/calls.sh: has each growth refused in turn that a public call of a library asks for: kernels, memories, texts, steps, books,
-# batches, passes of the machine and new machines. It says what came of it.
+# refused/calls.sh: has each growth refused in turn that a public call of a library asks for: kernels, memories, texts, steps and their
+# parts, books, batches, passes of the machine, its calls, and new machines. It says what came of it.
 # It runs the tests of the files refused.rt of these crates that `rt test` or `./test` built, once for each growth. A test fails where
 # a refused growth is anything but a want of memory that changed nothing, and in batches where it comes to more than one call, but for
 # a history that could not be reserved. The batch and the pass with an empty vector must also be served once with a joined run refused

@@ -1,5 +1,6 @@
 //! The rows of results that are written over an operand: `a = add_wuz a b` beside `c = add_wuz a b`, whose result goes into a
-//! vector that was kept. They are calls on a book, in one thread, and take turns; of each the least time counts.
+//! vector that was kept, and the same of a scan. They are calls on a book, in one thread, and take turns; of each the least time
+//! counts.
 
 use call_history::Book;
 use cvl_text::Call;
@@ -12,6 +13,26 @@ use std::time::Instant;
 /// How many items the vectors have.
 const SIZES: [u32; 9] = [
     4_096, 8_192, 16_384, 32_768, 65_536, 131_072, 262_144, 524_288, 1_000_000,
+];
+
+/// A row: its name, the call whose result is written over an operand, and the other one.
+struct Row {
+    name: &'static str,
+    over: &'static str,
+    kept: &'static str,
+}
+
+const ROWS: [Row; 2] = [
+    Row {
+        name: "add",
+        over: "a = add_wuz a b",
+        kept: "c = add_wuz a b",
+    },
+    Row {
+        name: "scan",
+        over: "a = add_suz a",
+        kept: "c = add_suz a",
+    },
 ];
 
 /// How many times each way is timed.
@@ -47,11 +68,11 @@ fn book_of(rt: &impl Clock, alloc: Global, size: u32) -> io::Result<Book> {
 }
 
 /// The least time of both ways, in nanoseconds.
-fn least(rt: &impl Clock, alloc: Global, book: &mut Book) -> io::Result<(u32, u32)> {
+fn least(rt: &impl Clock, alloc: Global, book: &mut Book, row: &Row) -> io::Result<(u32, u32)> {
     let mut least = (u32::MAX, u32::MAX);
     for _repeat in 0..REPEATS {
-        let over = time(rt, alloc, book, "a = add_wuz a b")?;
-        let kept = time(rt, alloc, book, "c = add_wuz a b")?;
+        let over = time(rt, alloc, book, row.over)?;
+        let kept = time(rt, alloc, book, row.kept)?;
         least = (least.0.min(over), least.1.min(kept));
     }
     Ok(least)
@@ -59,11 +80,14 @@ fn least(rt: &impl Clock, alloc: Global, book: &mut Book) -> io::Result<(u32, u3
 
 /// Prints for each number of items the nanoseconds of a call either way.
 pub fn rows<R: Alloc<A = Global> + Clock + Print>(rt: &R) -> io::Result<()> {
-    for size in SIZES {
-        let mut book = book_of(rt, rt.alloc(), size)?;
-        let (over, kept) = least(rt, rt.alloc(), &mut book)?;
-        println!(rt; "over\tadd/{size}\tover an operand\t{over}")?;
-        println!(rt; "over\tadd/{size}\tinto a kept vector\t{kept}")?;
+    for row in &ROWS {
+        for size in SIZES {
+            let mut book = book_of(rt, rt.alloc(), size)?;
+            let (over, kept) = least(rt, rt.alloc(), &mut book, row)?;
+            let name = row.name;
+            println!(rt; "over\t{name}/{size}\tover an operand\t{over}")?;
+            println!(rt; "over\t{name}/{size}\tinto a kept vector\t{kept}")?;
+        }
     }
     Ok(())
 }

@@ -142,22 +142,37 @@ fn runs_last<R: Abort + Alloc<A = Global> + Print + Threads + Wait + Sync>(
 {
     let length = shared.look(caller);
     let (place, text) = answer(rt, shared, caller, way, line)?;
-    assert!(rt; place == length && shared.look(caller) == length + 1);
+    assert!(rt; place == length && shared.look(caller) == length.saturating_add(1));
     assert!(rt; text == replied(rt.alloc(), memory, line)?);
     Ok(())
 }
 
-/// Asserts that a machine runs a line of each word, goes on where one of them is refused memory, and holds then what a memory
-/// holds that is refused nothing.
+/// Asserts that a machine runs a line of each word, and goes on where one of them is refused memory.
+fn runs_each<R: Abort + Alloc<A = Global> + Print + Threads + Wait + Sync>(
+    rt: &R,
+    shared: &Shared,
+    caller: &mut Caller,
+    way: Way,
+    memory: &mut Memory,
+) -> Result<(), Fail>
+    requires machine { caller.old.machine ≡ shared.now }
+    requires idle { IsIdle caller.old }
+    ensures { caller.new.machine ≡ shared.now }
+{
+    for line in opening().lines().chain(each_word().lines()) {
+        runs_last(rt, shared, caller, way, memory, line)?;
+    }
+    Ok(())
+}
+
+/// The same, and that it holds then what a memory holds that is refused nothing.
 fn runs_on<R: Abort + Alloc<A = Global> + Print + Threads + Wait + Sync>(
     rt: &R,
     way: Way,
 ) -> Result<(), Fail> {
     let (shared, mut caller) = alone(rt.alloc())?;
     let mut memory = Memory::new(rt.alloc(), ROOM)?;
-    for line in opening().lines().chain(each_word().lines()) {
-        runs_last(rt, &shared, &mut caller, way, &mut memory, line)?;
-    }
+    runs_each(rt, &shared, &mut caller, way, &mut memory)?;
     let book = shared.close(caller)?;
     assert!(rt; book.audit(&Sequential, rt.alloc())?);
     holds(rt, book.memory(), &memory_text(rt.alloc(), &memory)?)
@@ -242,7 +257,7 @@ fn is_whole_behind<R: Abort + Alloc<A = Global> + Print + Threads + Wait + Sync>
     let mut memory = opened(rt.alloc())?;
     let answered = told(rt, &asked, &mut memory, line)?;
     let book = shared.close(caller)?;
-    assert!(rt; book.len() == opening().lines().count() + answered);
+    assert!(rt; book.len() == opening().lines().count().saturating_add(answered));
     assert!(rt; book.audit(&Sequential, rt.alloc())?);
     holds(rt, book.memory(), &memory_text(rt.alloc(), &memory)?)
 }
