@@ -65,7 +65,9 @@ fn has_operand_at_target(memory: &Memory, call: &Call) -> bool
     }
 }
 
-/// The step of a call whose result is to be written over an operand.
+/// The step of a call whose result is to be written over an operand. It stands apart, so that the step of all other calls stays
+/// short.
+#[inline(never)]
 pub(crate) fn step_over(alloc: Global, meter: &mut Meter, memory: &mut Memory, call: &Call) -> Reply
     requires { GoesOver memory.old call.now }
     ensures step { stepped memory.old (task_of call.now) ≡ record { memory = memory.new; answer = answer_of result } }

@@ -107,6 +107,7 @@ fn scan_over<O: Combine>(op: O, list: &mut [O::Item])
 }
 
 /// `map1_z` in the calling thread, whose result is written over the vector.
+#[inline(never)]
 pub fn map1_z_over(meter: &mut Meter, op: Z1, a: &mut [i64])
     ensures map { a.new ≡ map (alter_z op) a.old }
     ensures counted { meter.new ≡ raised meter.old }
@@ -116,6 +117,7 @@ pub fn map1_z_over(meter: &mut Meter, op: Z1, a: &mut [i64])
 }
 
 /// `scan_whole_z` in the calling thread, whose result is written over the vector.
+#[inline(never)]
 pub fn scan_whole_z_over(meter: &mut Meter, op: ScanZ, a: &mut [i64])
     ensures scan { a.new ≡ scanned (combine_z op) (unit_z op) a.old }
     ensures counted { meter.new ≡ raised meter.old }
@@ -126,6 +128,7 @@ pub fn scan_whole_z_over(meter: &mut Meter, op: ScanZ, a: &mut [i64])
 
 /// `map2_z` in the calling thread, whose result is written over the first vector.
 #[tactic(auto, using(crate::proofs::Placed::paired_long))]
+#[inline(never)]
 pub fn map2_z_over_first(meter: &mut Meter, op: Z2, a: &mut [i64], b: &[i64])
     requires same_length { length a.old ≡ length b.now }
     requires allowed { All (IsAllowed op) b.now }
@@ -138,6 +141,7 @@ pub fn map2_z_over_first(meter: &mut Meter, op: Z2, a: &mut [i64], b: &[i64])
 
 /// `map2_z` in the calling thread, whose result is written over the second vector.
 #[tactic(auto, using(crate::proofs::Placed::paired_long))]
+#[inline(never)]
 pub fn map2_z_over_second(meter: &mut Meter, op: Z2, a: &[i64], b: &mut [i64])
     requires same_length { length a.now ≡ length b.old }
     requires allowed { All (IsAllowed op) b.old }
