@@ -172,7 +172,8 @@ pub fn step_metered(
     )
 }
 
-/// `step_metered`, with vectors that were replaced and are kept for the next results.
+/// `step_metered`, with vectors that were replaced and are kept for the next results. Where one operand of many integers lies at
+/// the target of a call item by item, or of a scan, the result is written over it, and takes neither memory nor what was kept.
 pub fn step_with(
     execution: &impl Execution,
     alloc: Global,
