@@ -1,6 +1,7 @@
 /* Refuses one growth of a program: preloaded, it counts what is allocated or grown between the lines "begin" and "end" that the
-   program writes, or in all its run if REFUSE_ALL is set, and refuses the one of the number in REFUSE. Behind "end" it says in the file of descriptor 3 how many there
-   were: not where the program ends, since one that leaves by _exit runs nothing then. */
+   program writes, and refuses the one of the number in REFUSE. Behind "end" it says in the file of descriptor 3 how many there
+   were: not where the program ends, since one that leaves by _exit runs nothing then. With REFUSE_ALL it counts in all the run,
+   and says so where the program ends. */
 #define _GNU_SOURCE
 #include "growths.h"
 #include <stdio.h>

@@ -16,7 +16,7 @@ use crate::judged::Judged;
 use cvl_text::{Call, Reply};
 use held::is_ints;
 use one::{alter_over, scan_over};
-use scan_kernels::{Execution, Meter, OVERWRITES_PAY, Source, overwrites_pay};
+use scan_kernels::{Execution, Meter, Source, overwrites_pay};
 use std::alloc::Global;
 use two::{can_apply, map_over};
 use vector_memory::Memory;
@@ -44,10 +44,7 @@ pub(crate) fn goes_over(
 ) -> bool
     ensures { IsTrue result → GoesOver memory.now call.now }
 {
-    let count = count_of(judged);
-    count >= OVERWRITES_PAY
-        && overwrites_pay(execution, spare, meter, count)
-        && has_operand_at_target(memory, call)
+    overwrites_pay(execution, spare, meter, count_of(judged)) && has_operand_at_target(memory, call)
 }
 
 /// Whether one vector of a call lies at its target, and the other, if there are two, does not.

@@ -1,6 +1,6 @@
 //! Whether a kernel goes by chunks, and of how many items.
 
-ghost use Rattle.std.specs.Prelude.{◌≡◌, ◌*◌, ◌<◌, ◌≤◌, IfOk, IfSome};
+ghost use Rattle.std.specs.Prelude.{◌≡◌, ◌*◌, ◌<◌, ◌≤◌, IfOk, IfSome, IsTrue};
 ghost use Rattle.segment_desc.specs.Appended.{IsExact};
 ghost use Rattle.scan_kernels.specs.Lists.{FitBools, FitInts, bools_of, ints_of};
 
@@ -35,16 +35,19 @@ pub(crate) fn write_size<T: Copy>(
 
 /// From how many items on it repays a caller to look up its operands once more and write a result over one of them, in place of
 /// into a vector that was kept: found by `bench over`.
-pub const OVERWRITES_PAY: usize = 16_384;
+const OVERWRITES_PAY: usize = 16_384;
 
 /// Whether a kernel that goes item by item is faster where it writes its result over an operand: many items, which do not go by
 /// chunks.
+#[inline(always)]
 pub fn overwrites_pay(
     execution: &impl Execution,
     source: &impl Source<i64>,
     meter: &Meter,
     count: usize,
-) -> bool {
+) -> bool
+    ensures { IsTrue result → OVERWRITES_PAY ≤ count }
+{
     count >= OVERWRITES_PAY && write_size(execution, source, meter, count).is_none()
 }
 

@@ -40,9 +40,7 @@ mod singles;
 mod source;
 mod whole;
 
-pub use chunks::{
-    OVERWRITES_PAY, bools_by_chunks, gather_size, ints_by_chunks, overwrites_pay, permute_size,
-};
+pub use chunks::{bools_by_chunks, gather_size, ints_by_chunks, overwrites_pay, permute_size};
 pub use compare::compare2;
 pub use conditions::{divisors_ok, shifts_ok};
 pub use convert::{number, truth};
