@@ -1,6 +1,6 @@
 -- A result that is written over an operand: the vectors that are taken out of the memory are those that the call reads (`same_ints`,
 -- `other_stays`), and putting the result back is the call's step (`applied_over`).
-use Rattle.std.proofs.Common.{◌≡◌, ℤ, List, [], length, map, Bool, true, false, Option, Some, None, Ok, refl, sym, ap, ◌∙◌}
+use Rattle.std.proofs.Common.{◌≡◌, ℤ, List, [], length, map, Bool, true, false, Option, Some, None, Ok, refl, sym, ap, ◌∙◌, ℕ, ◌≤◌, arith}
 use Rattle.std.specs.Prelude.{◌==◌}
 use Rattle.std.proofs.lemmas.Bool.{eq-eqb}
 use Rattle.std.proofs.lemmas.List.{length-map}
@@ -17,12 +17,13 @@ use Rattle.vector_memory.specs.declared.name.Name.{Name}
 use Rattle.vector_memory.specs.Contents.{Content, Ints}
 use Rattle.vector_memory.specs.Names.{same_name}
 use Rattle.vector_memory.specs.States.{State, value_at, put, refusal}
-use Rattle.vector_memory.proofs.Putting.{lookup-inserted, put-put}
+use Rattle.vector_memory.proofs.Putting.{fits_back, lookup-inserted, put-put, value_at-put}
+use Rattle.vector_memory.proofs.StateLemmas.{value_at-fits}
 use Rattle.cvl_text.specs.Answers.{Done}
 use Rattle.cvl_calls.specs.Conditions.{seconds}
 use Rattle.cvl_calls.specs.Operands.{integers}
 use Rattle.cvl_calls.specs.Outcomes.{Effect, Held, Stores}
-use Rattle.cvl_calls.specs.Over.{CanApply, made_by}
+use Rattle.cvl_calls.specs.Over.{CanApply, WasTaken, made_by}
 use Rattle.cvl_calls.specs.declared.over.one.Change.{Change}
 use Rattle.cvl_calls.specs.declared.over.one.Change.TheVariants as changes
 use Rattle.cvl_calls.specs.Steps.{Stepped, followed, refused}
@@ -73,3 +74,21 @@ pub applied_over : (m held after : State) (to : Name) (between v w : Content) �
 applied_over m held after to between v w accepted was is same =
     let written : after ≡ put m to v = is ∙ ap (λ (s : State). put s to w) was ∙ put-put m to between w ∙ ap (put m to) same in
     ap (λ why. refused m why (put m to v)) accepted ∙ ap (λ (s : State). record { memory = s; answer = Done }) (sym written)
+
+-- What was taken out may be put back, or as many integers: they keep the limit, their name is there, and the store is not refused.
+module _ (held : State) (to : Name) (count : ℕ) (taken : WasTaken held to count) where
+  pub taken_fits : count ≤ held.limit
+  taken_fits =
+      let limit : held.limit ≡ taken.before.limit = ap (λ (s : State). s.limit) taken.left in
+      let few : length taken.taken ≤ taken.before.limit = rw taken.there at (value_at-fits taken.before to taken.lawful) in
+      omega (arith, taken.enough)
+
+  pub taken_there : value_at held to ≡ None → ⊥
+  taken_there none =
+      let now : value_at held to ≡ Some (Ints []) = ap (λ (s : State). value_at s to) taken.left ∙ value_at-put taken.before to (Ints []) in
+      let same : Some (Ints []) ≡ None = sym now ∙ none in cc
+
+pub taken_accepted : (held : State) (to : Name) (xs : List ℤ) → WasTaken held to (length xs) → refusal held to (Ints xs) ≡ None
+taken_accepted held to xs taken =
+    ap (λ (s : State). refusal s to (Ints xs)) taken.left
+    ∙ fits_back taken.before to (Ints taken.taken) (Ints []) (Ints xs) taken.lawful taken.there refl taken.enough

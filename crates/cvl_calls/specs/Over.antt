@@ -1,5 +1,5 @@
 -- Calls whose result may be written over an operand.
-use Rattle.std.specs.Prelude.{◌≡◌, ℤ, List, length, map, All, None, Some, Ok, not, true}
+use Rattle.std.specs.Prelude.{◌≡◌, ◌≤◌, ℕ, ℤ, List, [], length, map, All, None, Some, Ok, not, true}
 use Rattle.item_operations.specs.declared.operation.Z2.{Z2}
 use Rattle.item_operations.specs.IntegerOps.{IsAllowed, alter_z}
 use Rattle.item_operations.specs.IntegerScans.{combine_z, unit_z}
@@ -7,7 +7,7 @@ use Rattle.scan_kernels.specs.Segmented.{scanned}
 use Rattle.vector_memory.specs.declared.name.Name.{Name}
 use Rattle.vector_memory.specs.Contents.{Ints}
 use Rattle.vector_memory.specs.Names.{same_name}
-use Rattle.vector_memory.specs.States.{State, value_at}
+use Rattle.vector_memory.specs.States.{State, IsLawful, value_at, put}
 use Rattle.cvl_text.specs.declared.call.Call.{Call}
 use Rattle.cvl_text.specs.declared.call.Call.TheVariants as calls
 use Rattle.cvl_calls.specs.Conditions.{seconds}
@@ -27,6 +27,15 @@ pub record CanApply (m : State) (op : Z2) (a b : Name) : Type 0 where
 -- a name stands for integers
 abbrev pub IsInts : State → Name → Type 0
 IsInts m a = (xs : List ℤ) × (value_at m a ≡ Some (Ints xs))
+
+-- As many integers or more were taken out of a lawful memory, which left none of them at their name.
+pub record WasTaken (held : State) (to : Name) (count : ℕ) : Type 0 where
+  pub before : State
+  pub taken : List ℤ
+  pub lawful : IsLawful before
+  pub there : value_at before to ≡ Some (Ints taken)
+  pub left : held ≡ put before to (Ints [])
+  pub enough : count ≤ length taken
 
 -- what a call makes of one vector
 abbrev pub made_by : Change → List ℤ → List ℤ

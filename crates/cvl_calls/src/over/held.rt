@@ -1,9 +1,9 @@
 //! The integers of a name, lent, or taken out of the memory and put back.
 
-ghost use Rattle.std.specs.Prelude.{[], ◌≡◌, ℤ, List, Some, None, IfSome, IsTrue};
+ghost use Rattle.std.specs.Prelude.{[], ◌≡◌, ℤ, List, Some, None, length, IfSome, IsTrue};
 ghost use Rattle.vector_memory.specs.Contents.{Ints};
-ghost use Rattle.vector_memory.specs.States.{FitsLimits, put, refusal, value_at};
-ghost use Rattle.cvl_calls.specs.Over.{IsInts};
+ghost use Rattle.vector_memory.specs.States.{put, value_at};
+ghost use Rattle.cvl_calls.specs.Over.{IsInts, WasTaken};
 
 use std::alloc::Global;
 use vector_memory::laws::memories_are_lawful;
@@ -49,11 +49,10 @@ pub(crate) fn take(alloc: Global, memory: &mut Memory, name: Name) -> Vec<i64>
     }
 }
 
-/// Puts integers at a name, for which there is room and which is there.
+/// Puts integers back at a name from which at least as many were taken.
+#[tactic(auto, using(crate::proofs::Written::taken_there, crate::proofs::Written::taken_accepted))]
 pub(crate) fn give(memory: &mut Memory, name: Name, items: Vec<i64>)
-    requires fits { FitsLimits memory.old.limit (Ints items.items) }
-    requires there { value_at memory.old name ≡ None → ⊥ }
-    requires accepted { refusal memory.old name (Ints items.items) ≡ None }
+    requires { WasTaken memory.old name (length items.items) }
     ensures { memory.new ≡ put memory.old name (Ints items.items) }
 {
     match memory.replace(name, Value::Ints(items)) {
