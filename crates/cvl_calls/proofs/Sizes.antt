@@ -14,7 +14,7 @@ use Rattle.scan_kernels.specs.Gathered.{item_at, gathered, segmented_gather}
 use Rattle.scan_kernels.specs.Indices.{HoldsEachPlaceOnce, PermuteSegments}
 use Rattle.scan_kernels.specs.Packed.{packed, number_set, numbers_set}
 use Rattle.scan_kernels.specs.Permuted.{permuted, segmented_permute, sent_to}
-use Rattle.permute_kernels.proofs.Segments.{length_cut}
+use Rattle.scan_kernels.proofs.Segments.{length_cut}
 use Rattle.scan_kernels.proofs.Sending.{flat_map-range_push, sent_one}
 use Rattle.std.proofs.lemmas.List.Elements.{All-head, All-tail}
 

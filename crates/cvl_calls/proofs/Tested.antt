@@ -10,7 +10,7 @@ use Rattle.std.proofs.lemmas.List.FromFn.{get_or-range_with_len, length-range_wi
 use Rattle.segment_desc.specs.Cut.{cut}
 use Rattle.item_operations.specs.IntegerOps.{IsDivisor, IsShift}
 use Rattle.scan_kernels.specs.Indices.{HoldsEachPlaceOnce, IsPlaceOf, LieWithin, PermuteSegments, times_held}
-use Rattle.permute_kernels.proofs.Segments.{length_cut}
+use Rattle.scan_kernels.proofs.Segments.{length_cut}
 use Rattle.cvl_calls.specs.Conditions.{is_divisor, is_shift, is_place, holds_each_place, permutes, lies_within}
 
 -- a test that tells whether S holds agrees with another one that does

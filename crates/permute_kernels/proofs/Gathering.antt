@@ -9,7 +9,7 @@ use Rattle.std.proofs.lemmas.Option.{slice_get-get_or}
 use Rattle.segment_desc.specs.Cut.{cut}
 use Rattle.scan_kernels.specs.Gathered.{gathered, item_at, segmented_gather}
 use Rattle.scan_kernels.specs.Indices.{IsPlaceOf, LieWithin}
-use Rattle.permute_kernels.proofs.Segments.{AllZip_at, AllZip_push, cut_more, length_cut, length_segment, next_segment, segment_at, zip_push}
+use Rattle.scan_kernels.proofs.Segments.{AllZip_at, AllZip_push, cut_more, length_cut, length_segment, next_segment, segment_at, zip_push}
 
 -- which places each segment holds, segment by segment
 module _ (ss ts : List ℕ) (j at : ℕ) (index : List ℤ) where

@@ -10,7 +10,7 @@ use Rattle.scan_kernels.proofs.Joining.{zip-append}
 use Rattle.scan_kernels.specs.Gathered.{gathered, segmented_gather}
 use Rattle.scan_kernels.specs.Packed.{number_set, numbers_set}
 use Rattle.scan_kernels.specs.Permuted.{permuted, segmented_permute}
-use Rattle.permute_kernels.proofs.Segments.{length_cut}
+use Rattle.scan_kernels.proofs.Segments.{length_cut}
 
 module _ {X : Type 0} where
   pub segmented_permute-append : (ks ls : List ℕ) (is js : List ℤ) (xs ys : List X) → sum ks ≡ length is → sum ks ≡ length xs

@@ -13,7 +13,7 @@ use Rattle.scan_kernels.proofs.Places.{place_below, same_place}
 use Rattle.scan_kernels.specs.Indices.{HoldsEachPlaceOnce}
 use Rattle.scan_kernels.specs.Permuted.{IsPermuted, IsPermutedBySegments}
 use Rattle.scan_kernels.proofs.Counting.{each_inside, held_apart}
-use Rattle.permute_kernels.proofs.Segments.{AllZip_push, cut_more, cut_same, length_cut, length_segment, zip_push}
+use Rattle.scan_kernels.proofs.Segments.{AllZip_push, cut_more, cut_same, length_cut, length_segment, zip_push}
 
 -- the items before i are at their places
 abbrev pub PlacedBefore : {X : Type 0} → List ℤ → List X → ℕ → List X → Type 0

@@ -7,7 +7,10 @@ ghost use Rattle.scan_kernels.specs.Indices.{LieWithin};
 ghost use Rattle.scan_kernels.specs.Gathered.{segmented_gather};
 
 use crate::gather::gather;
-use scan_kernels::{Execution, Meter, Source};
+use scan_kernels::{
+    BoolRow, Execution, GatheredSegments, IntRow, Meter, Source, bools_by_chunks,
+    gather_segments_size, ints_by_chunks,
+};
 use segment_desc::{OutOfMemory, Segd};
 use std::alloc::AllocError;
 
@@ -15,7 +18,7 @@ use std::alloc::AllocError;
 /// by the lengths `by`, holds places of segment j of the integers, by the lengths `source`, as `in_range` tells. The
 /// segments are as many on both sides, and have the integers and the indices all together.
 pub fn back_permute_z(
-    _execution: &impl Execution,
+    execution: &impl Execution,
     alloc: impl Source<i64>,
     meter: &mut Meter,
     items: &[i64],
@@ -31,14 +34,26 @@ pub fn back_permute_z(
     ensures exact { IfOk result (λ v. IsExact v) }
     ensures counted { CountsRun result meter.old meter.new }
 {
-    let made = gather_each(alloc, items, source.lengths(), index, by.lengths())?;
+    let (source, by) = (source.lengths(), by.lengths());
+    let made = match gather_segments_size(execution, meter, index.len()) {
+        Some(size) => {
+            let row = IntRow::GatheredSegments(GatheredSegments {
+                items,
+                source,
+                index,
+                by,
+            });
+            ints_by_chunks(execution, alloc, row, size)?
+        }
+        None => gather_each(alloc, items, source, index, by)?,
+    };
     meter.raise();
     Ok(made)
 }
 
 /// The same for truth values.
 pub fn back_permute_b(
-    _execution: &impl Execution,
+    execution: &impl Execution,
     alloc: impl Source<bool>,
     meter: &mut Meter,
     flags: &[bool],
@@ -54,7 +69,19 @@ pub fn back_permute_b(
     ensures exact { IfOk result (λ v. IsExact v) }
     ensures counted { CountsRun result meter.old meter.new }
 {
-    let made = gather_each(alloc, flags, source.lengths(), index, by.lengths())?;
+    let (source, by) = (source.lengths(), by.lengths());
+    let made = match gather_segments_size(execution, meter, index.len()) {
+        Some(size) => {
+            let row = BoolRow::GatheredSegments(GatheredSegments {
+                items: flags,
+                source,
+                index,
+                by,
+            });
+            bools_by_chunks(execution, alloc, row, size)?
+        }
+        None => gather_each(alloc, flags, source, index, by)?,
+    };
     meter.raise();
     Ok(made)
 }

@@ -6,7 +6,10 @@ ghost use Rattle.scan_kernels.specs.Metering.{CountsRun};
 ghost use Rattle.scan_kernels.specs.Indices.{HoldsEachPlaceOnce, PermuteSegments};
 ghost use Rattle.scan_kernels.specs.Permuted.{IsPermuted, IsPermutedBySegments, permuted, segmented_permute};
 
-use scan_kernels::{Execution, Meter, Source, place_of};
+use scan_kernels::{
+    BoolRow, Execution, IntRow, Meter, PermutedSegments, Source, bools_by_chunks, ints_by_chunks,
+    permute_size, place_of,
+};
 use segment_desc::{OutOfMemory, Segd, append_reserved};
 use std::alloc::AllocError;
 
@@ -14,7 +17,7 @@ use std::alloc::AllocError;
 /// integers, the segments have them all together, and each segment of the index holds each of its places once, as
 /// `is_permutation` tells. A copy, and one pass that writes over it.
 pub fn permute_z(
-    _execution: &impl Execution,
+    execution: &impl Execution,
     alloc: impl Source<i64>,
     meter: &mut Meter,
     items: &[i64],
@@ -29,14 +32,25 @@ pub fn permute_z(
     ensures exact { IfOk result (λ v. IsExact v) }
     ensures counted { CountsRun result meter.old meter.new }
 {
-    let made = permuted(alloc, items, index, segments.lengths())?;
+    let lengths = segments.lengths();
+    let made = match permute_size(execution, meter, index.len()) {
+        Some(size) => {
+            let row = IntRow::PermutedSegments(PermutedSegments {
+                items,
+                index,
+                lengths,
+            });
+            ints_by_chunks(execution, alloc, row, size)?
+        }
+        None => permuted(alloc, items, index, lengths)?,
+    };
     meter.raise();
     Ok(made)
 }
 
 /// The same for truth values.
 pub fn permute_b(
-    _execution: &impl Execution,
+    execution: &impl Execution,
     alloc: impl Source<bool>,
     meter: &mut Meter,
     flags: &[bool],
@@ -51,7 +65,18 @@ pub fn permute_b(
     ensures exact { IfOk result (λ v. IsExact v) }
     ensures counted { CountsRun result meter.old meter.new }
 {
-    let made = permuted(alloc, flags, index, segments.lengths())?;
+    let lengths = segments.lengths();
+    let made = match permute_size(execution, meter, index.len()) {
+        Some(size) => {
+            let row = BoolRow::PermutedSegments(PermutedSegments {
+                items: flags,
+                index,
+                lengths,
+            });
+            bools_by_chunks(execution, alloc, row, size)?
+        }
+        None => permuted(alloc, flags, index, lengths)?,
+    };
     meter.raise();
     Ok(made)
 }

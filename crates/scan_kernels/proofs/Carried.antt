@@ -3,7 +3,7 @@ use Rattle.std.proofs.Common.{◌≡◌, ℕ, zero, suc, ◌+◌, ◌-◌, ◌*�
 use Rattle.std.proofs.lemmas.Bool.{cases_lt}
 use native.Mathlib.Nat.{suc-mul}
 use Rattle.std.specs.List.{fold}
-use Rattle.std.proofs.lemmas.List.{take-append-drop, drop_more, take_more, drop-drop, drop-take, take-take, take_all, append-nil, take-append-le, drop-append-le, length-take-le, length-drop, get_or-set_same, get_or-set_other}
+use Rattle.std.proofs.lemmas.List.{take-append-drop, drop_more, drop-drop, drop-take, take-take, take_all, append-nil, take-append-le, drop-append-le, length-take-le, length-drop, get_or-set_same, get_or-set_other}
 use Rattle.std.proofs.Math.Seq.{drop-append-add, drop-append_seam, take-add, take-append_seam}
 use Rattle.std.proofs.lemmas.List.Sums.{sum_by-take-drop, fold-append}
 use Rattle.scan_kernels.specs.Edges.{LiesIn}

@@ -1,16 +1,15 @@
 -- What is carried into each chunk of a scan: `carries_are`, where the operation is associative and has a unit on the items.
-use Rattle.std.proofs.Common.{◌≡◌, ℕ, zero, suc, ◌+◌, ◌-◌, ◌*◌, ◌<◌, ◌≤◌, max, Bool, true, false, List, [], ◌∷◌, ◌++◌, length, take, drop, map, Some, refl, sym, ap, ◌∙◌, get_or, sum, slice_get, All, arith, add-one}
+use Rattle.std.proofs.Common.{◌≡◌, ℕ, zero, suc, ◌+◌, ◌-◌, ◌*◌, ◌<◌, ◌≤◌, Bool, true, false, List, [], ◌∷◌, length, take, drop, Some, refl, sym, ap, ◌∙◌, get_or, sum, slice_get, All, arith, add-one}
 use Rattle.std.specs.List.{fold}
 use Rattle.std.proofs.lemmas.Bool.{ltb-true, ltb-false}
 use Rattle.std.proofs.Math.ListN.{get_or-append}
-use Rattle.std.proofs.lemmas.List.{get_or-map}
 use Rattle.std.proofs.lemmas.List.Elements.{All-take, All-drop}
 use Rattle.std.proofs.lemmas.List.Sums.{sum_by-cons}
 use Rattle.std.proofs.lemmas.Option.{slice_get-get_or, get_or_from_slice_get}
 use borrow.Rule.Slice.PartMut.{put_mid}
-use Rattle.scan_kernels.specs.Edges.{AreCarries, AreEdges, CarriesOn, IsEdge, LiesIn, carried_over}
+use Rattle.scan_kernels.specs.Edges.{AreCarries, AreEdges, CarriesOn, IsEdge, carried_over}
 use Rattle.scan_kernels.specs.Pairs.{join_pairs}
-use Rattle.scan_kernels.specs.Segmented.{scanned, segmented_scan}
+use Rattle.scan_kernels.specs.Segmented.{segmented_scan}
 use Rattle.scan_kernels.specs.declared.edges.Edge.{Edge}
 use Rattle.scan_kernels.proofs.Carried.{fold-on, next_place, scan-item, scan_long}
 

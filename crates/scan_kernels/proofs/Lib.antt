@@ -10,7 +10,9 @@ pub mod Joining
 pub mod Mapped
 pub mod NextSegment
 pub mod OneItem
+pub mod PackedChunks
 pub mod PackedLists
+pub mod Packing
 pub mod Paired
 pub mod PartMoves
 pub mod Placed
@@ -19,7 +21,12 @@ pub mod ReducedChunks
 pub mod ReducedParts
 pub mod ResultLengths
 pub mod Scanned
+pub mod SegmentLists
+pub mod SegmentMoves
+pub mod SegmentRuns
+pub mod Segments
 pub mod Sending
+pub mod SetFlags
 pub mod Tested
 pub mod UndoneMoves
 pub mod Written

@@ -1,11 +1,12 @@
 -- Lists that are paired place by place, one more place at a time: `distributed_more`, `segmented_index_more`, and
--- `indexed_push` (one more item of a segment); in two parts: `distributed-lengths-append`,
+-- `indexed_push` (one more item of a segment), `indexed_at` (the item at a place); in two parts: `distributed-lengths-append`,
 -- `segmented_index-lengths-append`; over segments of one item each: `distributed-ones`, `segmented_index-ones`.
-use Rattle.std.proofs.Common.{◌≡◌, ℕ, zero, suc, ◌+◌, ◌<◌, ◌≤◌, List, [], ◌∷◌, ◌++◌, length, take, drop, map, replicate, ℤ, pos, refl, sym, ap, ◌∙◌, get_or, All, arith, zero-add, append_assoc}
-use Rattle.std.specs.List.{zip, flat_map}
+use Rattle.std.proofs.Common.{◌≡◌, ℕ, zero, suc, ◌+◌, ◌<◌, ◌≤◌, List, [], ◌∷◌, ◌++◌, length, take, drop, map, replicate, ℤ, pos, refl, sym, ap, ◌∙◌, get_or, All, Some, arith, zero-add, append_assoc}
+use Rattle.std.specs.List.{zip, flat_map, range_with_len, slice_get}
 use Rattle.std.proofs.lemmas.List.{take_more, take_all, append-nil}
 use Rattle.std.proofs.lemmas.List.Concat.{flat_map-append}
-use Rattle.std.proofs.lemmas.List.FromFn.{map-range_with_len_more}
+use Rattle.std.proofs.lemmas.List.FromFn.{get_or-map-range_with_len, length-map-range_with_len, map-range_with_len_more}
+use Rattle.std.proofs.lemmas.Option.{slice_get-get_or}
 use Rattle.std.proofs.lemmas.Slice.Zip.{length-zip, get_or-zip}
 use Rattle.scan_kernels.specs.Distributed.{distributed}
 use Rattle.scan_kernels.specs.Indexed.{index_at, indexed, segmented_index}
@@ -51,6 +52,13 @@ indexed_push start stride i = map-range_with_len_more (index_at start stride) 0 
 pub indexed_none : (start stride : ℤ) → indexed start stride 0 ≡ []
 unfolding indexed
 indexed_none start stride = refl
+
+pub indexed_at : (start stride : ℤ) (l i : ℕ) → i < l → slice_get (indexed start stride l) i ≡ Some (index_at start stride i)
+unfolding indexed
+indexed_at start stride l i h =
+    let items = map (index_at start stride) (range_with_len 0 l) in
+    let long = length-map-range_with_len (index_at start stride) 0 l in
+    slice_get-get_or items i (pos 0) (omega arith) ∙ ap Some (get_or-map-range_with_len (index_at start stride) 0 l i i (pos 0) h (zero-add i))
 
 -- the later segments take the later values
 pub distributed-lengths-append : {X : Type 0} (ks ls : List ℕ) (xs : List X) → length ks ≤ length xs → distributed (ks ++ ls) xs ≡ distributed ks (take (length ks) xs) ++ distributed ls (drop (length ks) xs)

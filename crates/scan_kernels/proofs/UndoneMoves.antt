@@ -1,6 +1,6 @@
 -- Permute and back permute undo one another: `gathered-permuted`, `permuted-gathered`. `IsPermuted-permuted`,
 -- `length-gathered`, `slice_get-gathered`: where the items stand.
-use Rattle.std.proofs.Common.{◌≡◌, ◌↔◌, ℕ, zero, suc, ◌+◌, ◌<◌, List, [], ◌∷◌, ◌++◌, length, refl, sym, ap, subst, ◌∙◌, get_or, ℤ, pos, negsuc, Some, All, unsigned_abs, arith, inl, inr}
+use Rattle.std.proofs.Common.{◌≡◌, ◌↔◌, ℕ, zero, suc, ◌+◌, ◌<◌, List, [], ◌∷◌, ◌++◌, length, refl, sym, ap, subst, ◌∙◌, get_or, ℤ, pos, Some, All, unsigned_abs, arith, inl, inr}
 use Rattle.std.specs.List.{cons_option, flat_map, range_with_len, slice_get}
 use Rattle.std.proofs.lemmas.Bool.{cases_lt}
 use Rattle.std.proofs.lemmas.List.{length-append}

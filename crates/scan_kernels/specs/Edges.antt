@@ -1,5 +1,5 @@
 -- The edges between the chunks of a list that is cut into segments, and what a scan of the segments carries over them.
-use Rattle.std.specs.Prelude.{◌≡◌, ℕ, ◌+◌, ◌-◌, ◌*◌, ◌<◌, ◌≤◌, max, nat_lt, false, List, length, take, drop, sum, slice_get, slice_index_or, All}
+use Rattle.std.specs.Prelude.{◌≡◌, ℕ, ◌+◌, ◌-◌, ◌*◌, ◌<◌, ◌≤◌, max, nat_lt, false, List, length, take, drop, sum, slice_get, slice_index_or}
 use Rattle.scan_kernels.specs.Pairs.{join_pairs}
 use Rattle.scan_kernels.specs.Segmented.{reduced, segmented_scan}
 use Rattle.scan_kernels.specs.declared.edges.Edge.{Edge}

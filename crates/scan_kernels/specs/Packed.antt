@@ -11,6 +11,10 @@ packed flags xs = map (λ p. p.1) (filter (λ p. p.0) (zip flags xs))
 abbrev pub number_set : List Bool → ℕ
 number_set flags = count_by (λ b. b) flags
 
--- how many are set in each segment
+-- how many are set in each segment, as numbers
+abbrev pub each_number : List ℕ → List Bool → List ℕ
+each_number ls flags = map number_set (cut ls flags)
+
+-- how many are set in each segment, as integers
 abbrev pub numbers_set : List ℕ → List Bool → List ℤ
 numbers_set ls flags = map (λ segment. pos (number_set segment)) (cut ls flags)

@@ -33,6 +33,21 @@ pub(crate) fn write_size<T: Copy>(
     chunk_size(execution, meter.chunk(), count, pays)
 }
 
+/// The size of the chunks in which a kernel makes so many items segment by segment, if it goes by chunks. There are few, since each
+/// looks for the segment in which it begins.
+#[inline(always)]
+pub(crate) fn segmented_size<T: Copy>(
+    execution: &impl Execution,
+    source: &impl Source<T>,
+    meter: &Meter,
+    count: usize,
+) -> Option<usize>
+    ensures { IfSome result (λ size. 0 < size) }
+{
+    let size = write_size(execution, source, meter, count)?;
+    Some(size_of_few(count, size))
+}
+
 /// From how many items on it repays a caller to look up its operands once more and write a result over one of them, in place of
 /// into a vector that was kept: found by `bench over`.
 const OVERWRITES_PAY: usize = 16_384;
@@ -115,6 +130,33 @@ pub fn permute_size(execution: &impl Execution, meter: &Meter, count: usize) -> 
         return None;
     }
     let size = chunk_size(execution, meter.chunk(), count, count >= PERMUTES_PAY)?;
+    Some(size_of_few(count, size))
+}
+
+/// The size of the chunks in which a kernel reads so many items at scattered places segment by segment, if it goes by chunks. There
+/// are few, since each looks for the segment in which it begins.
+pub fn gather_segments_size(
+    execution: &impl Execution,
+    meter: &Meter,
+    count: usize,
+) -> Option<usize>
+    ensures { IfSome result (λ size. 0 < size) }
+{
+    let size = gather_size(execution, meter, count)?;
+    Some(size_of_few(count, size))
+}
+
+/// From how many items on threads are started to pack, also into fresh memory: the most of a pack is the test of each flag.
+const PACKS_PAY: usize = 1_000_000;
+
+/// The size of the chunks in which a kernel packs so many items, if it goes by chunks.
+pub fn pack_size(execution: &impl Execution, meter: &Meter, count: usize) -> Option<usize>
+    ensures { IfSome result (λ size. 0 < size) }
+{
+    if count <= meter.chunk() {
+        return None;
+    }
+    let size = chunk_size(execution, meter.chunk(), count, count >= PACKS_PAY)?;
     Some(size_of_few(count, size))
 }
 

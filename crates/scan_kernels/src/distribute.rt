@@ -5,9 +5,12 @@ ghost use Rattle.segment_desc.specs.Appended.{Appends, IsExact};
 ghost use Rattle.scan_kernels.specs.Distributed.{distributed};
 ghost use Rattle.scan_kernels.specs.Metering.{CountsRun};
 
+use crate::chunks::{bools_by_chunks, ints_by_chunks, segmented_size};
 use crate::execution::Execution;
 use crate::fill::repeat;
+use crate::fills_by_segments::Distributed;
 use crate::meter::Meter;
+use crate::rows::{BoolRow, IntRow};
 use crate::singles::{BLOCK, are_single};
 use crate::source::Source;
 use segment_desc::{OutOfMemory, Segd, append_reserved};
@@ -16,7 +19,7 @@ use std::alloc::AllocError;
 /// Integer j as often as segment j is long, in one pass into a vector of its final size. There are as many integers as
 /// segments.
 pub fn distribute_z(
-    _execution: &impl Execution,
+    execution: &impl Execution,
     alloc: impl Source<i64>,
     meter: &mut Meter,
     values: &[i64],
@@ -27,7 +30,18 @@ pub fn distribute_z(
     ensures exact { IfOk result (λ v. IsExact v) }
     ensures counted { CountsRun result meter.old meter.new }
 {
-    let made = distribute(alloc, values, segments.lengths(), segments.total())?;
+    let (lengths, total) = (segments.lengths(), segments.total());
+    let made = match segmented_size(execution, &alloc, meter, total) {
+        Some(size) => {
+            let row = IntRow::Distributed(Distributed {
+                values,
+                lengths,
+                total,
+            });
+            ints_by_chunks(execution, alloc, row, size)?
+        }
+        None => distribute(alloc, values, lengths, total)?,
+    };
     meter.raise();
     Ok(made)
 }
@@ -35,7 +49,7 @@ pub fn distribute_z(
 /// Truth value j as often as segment j is long, in one pass into a vector of its final size. There are as many truth
 /// values as segments.
 pub fn distribute_b(
-    _execution: &impl Execution,
+    execution: &impl Execution,
     alloc: impl Source<bool>,
     meter: &mut Meter,
     flags: &[bool],
@@ -46,7 +60,18 @@ pub fn distribute_b(
     ensures exact { IfOk result (λ v. IsExact v) }
     ensures counted { CountsRun result meter.old meter.new }
 {
-    let made = distribute(alloc, flags, segments.lengths(), segments.total())?;
+    let (lengths, total) = (segments.lengths(), segments.total());
+    let made = match segmented_size(execution, &alloc, meter, total) {
+        Some(size) => {
+            let row = BoolRow::Distributed(Distributed {
+                values: flags,
+                lengths,
+                total,
+            });
+            bools_by_chunks(execution, alloc, row, size)?
+        }
+        None => distribute(alloc, flags, lengths, total)?,
+    };
     meter.raise();
     Ok(made)
 }

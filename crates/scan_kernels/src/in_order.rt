@@ -41,6 +41,7 @@ pub(crate) fn end_of(start: usize, size: usize, length: usize) -> usize
     requires place { start < length }
     ensures behind { start < result }
     ensures within { result ≤ length }
+    ensures short { result ≤ start + size }
 {
     if size < length - start {
         start + size

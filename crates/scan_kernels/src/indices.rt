@@ -7,8 +7,11 @@ ghost use Rattle.segment_desc.specs.Appended.{Appends, IsExact};
 ghost use Rattle.scan_kernels.specs.Indexed.{indexed, index_at, segmented_index};
 ghost use Rattle.scan_kernels.specs.Metering.{CountsRun};
 
+use crate::chunks::{ints_by_chunks, segmented_size};
 use crate::execution::Execution;
+use crate::fills_by_segments::RisingSegments;
 use crate::meter::Meter;
+use crate::rows::IntRow;
 use crate::singles::{BLOCK, are_single};
 use crate::source::Source;
 use segment_desc::{OutOfMemory, Segd};
@@ -17,7 +20,7 @@ use std::alloc::AllocError;
 /// In segment j the integers from start j on by stride j, which wrap, in one pass into a vector of its final size. There
 /// are as many starts, and as many strides, as segments.
 pub fn index(
-    _execution: &impl Execution,
+    execution: &impl Execution,
     alloc: impl Source<i64>,
     meter: &mut Meter,
     starts: &[i64],
@@ -30,7 +33,19 @@ pub fn index(
     ensures exact { IfOk result (λ v. IsExact v) }
     ensures counted { CountsRun result meter.old meter.new }
 {
-    let made = index_each(alloc, starts, strides, segments.lengths(), segments.total())?;
+    let (lengths, total) = (segments.lengths(), segments.total());
+    let made = match segmented_size(execution, &alloc, meter, total) {
+        Some(size) => {
+            let row = IntRow::RisingSegments(RisingSegments {
+                starts,
+                strides,
+                lengths,
+                total,
+            });
+            ints_by_chunks(execution, alloc, row, size)?
+        }
+        None => index_each(alloc, starts, strides, lengths, total)?,
+    };
     meter.raise();
     Ok(made)
 }
@@ -114,7 +129,7 @@ pub(crate) fn index_segment(start: i64, stride: i64, length: usize, made: &mut V
 
 #[inline(always)]
 #[tactic(auto, unfolding(crate::specs::Indexed::index_at))]
-fn index_at(start: i64, stride: i64, place: usize) -> i64
+pub(crate) fn index_at(start: i64, stride: i64, place: usize) -> i64
     requires { place ≤ most }
     ensures { result ≡ index_at start stride place }
 {

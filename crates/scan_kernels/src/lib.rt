@@ -14,6 +14,8 @@ mod distribute;
 mod edges;
 mod execution;
 mod fill;
+mod fills;
+mod fills_by_segments;
 mod in_order;
 mod in_threads;
 mod indices;
@@ -24,7 +26,10 @@ mod lists;
 mod map;
 mod meter;
 mod moves;
+mod moves_by_segments;
 mod overwrite;
+mod packs;
+mod packs_by_chunks;
 mod place;
 mod placewise;
 mod reduce;
@@ -35,12 +40,17 @@ mod rows;
 mod scan;
 mod scans_by_chunks;
 mod scans_in_parts;
+mod segmentwise;
 mod select;
+mod set_flags;
 mod singles;
 mod source;
 mod whole;
 
-pub use chunks::{bools_by_chunks, gather_size, ints_by_chunks, overwrites_pay, permute_size};
+pub use chunks::{
+    bools_by_chunks, gather_segments_size, gather_size, ints_by_chunks, overwrites_pay, pack_size,
+    permute_size,
+};
 pub use compare::compare2;
 pub use conditions::{divisors_ok, shifts_ok};
 pub use convert::{number, truth};
@@ -64,13 +74,18 @@ pub use lists::{
 pub use map::{map1_b, map1_z, map2_b, map2_z};
 pub use meter::{DEFAULT_CHUNK, Meter};
 pub use moves::{Gathered, Permuted};
+pub use moves_by_segments::{GatheredSegments, PermutedSegments};
 pub use overwrite::{map1_z_over, map2_z_over_first, map2_z_over_second, scan_whole_z_over};
+pub use packs::{PACK_BLOCK, packed};
+pub use packs_by_chunks::{packed_bools_by_chunks, packed_ints_by_chunks};
 pub use place::{is_place, place_of};
 pub use reduce::{reduce_b, reduce_z};
+pub use reduction_sizes::segments_size;
 pub use reductions::{ReducedBools, ReducedInts};
 pub use rows::{BoolRow, IntRow};
 pub use scan::{scan_b, scan_z};
 pub use select::{select_b, select_z};
+pub use set_flags::{SetNumbers, set_numbers};
 pub use source::{Kept, Source};
 pub use whole::{
     index_whole, reduce_whole_b, reduce_whole_z, repeat_b, repeat_z, scan_whole_b, scan_whole_z,

@@ -18,7 +18,7 @@ const ITEMS_PAY: usize = 8;
 /// `DEFAULT_CHUNK` is heeded always, as a number of segments. Else there are no more chunks than processors, and there are
 /// chunks only where they pay: also into fresh memory, of which a reduction of segments that are not short takes little.
 #[inline(always)]
-pub(crate) fn segments_size(
+pub fn segments_size(
     execution: &impl Execution,
     meter: &Meter,
     segments: usize,

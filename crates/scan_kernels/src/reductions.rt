@@ -84,7 +84,7 @@ fn write_reduced<O: Combine>(
 }
 
 /// How many items the segments have together.
-fn total(lengths: &[usize]) -> usize
+pub(crate) fn total(lengths: &[usize]) -> usize
     requires { sum lengths.now < 2 ^ 64 }
     ensures { result ≡ sum lengths.now }
 {

@@ -108,7 +108,7 @@ fn reduce_cut_bools(
 }
 
 /// Cuts so many items into chunks of a size, of which the last may be shorter.
-fn cut_evenly(count: usize, size: usize, lengths: &mut [usize])
+pub(crate) fn cut_evenly(count: usize, size: usize, lengths: &mut [usize])
     requires begun { (k : ℕ) → k < length lengths.old → k * size < count }
     requires all { count ≤ length lengths.old * size }
     ensures { sum lengths.new ≡ count }

@@ -6,16 +6,22 @@ ghost use Rattle.scan_kernels.specs.Lists.{FitBools, FitInts, bools_of, ints_of}
 
 use crate::carries::CarriedOver;
 use crate::choices::{by_b1, by_b2, by_comparison, by_name, by_z1, by_z2};
+use crate::fills::{Repeated, Rising};
+use crate::fills_by_segments::{Distributed, RisingSegments};
 use crate::lists::{
     AlteredBools, AlteredInts, AppliedBools, AppliedInts, Compared, Numbers, Selected, Truths,
 };
 use crate::moves::{Gathered, Permuted};
+use crate::moves_by_segments::{GatheredSegments, PermutedSegments};
+use crate::packs_by_chunks::Packed;
 use crate::placewise::{Placewise, write_from};
 use crate::reductions::{
     ReducedBools, ReducedInts, count_reduced_bools, count_reduced_ints, write_reduced_bools,
     write_reduced_ints,
 };
 use crate::scans_in_parts::{Scanned, write_scanned_bools, write_scanned_ints};
+use crate::segmentwise::{Segmentwise, write_segments};
+use crate::set_flags::{SetNumbers, count_set_numbers, write_set_numbers};
 use item_operations::{B1, B2, Cmp, ScanB, ScanZ, Z1, Z2};
 
 /// Integers that a kernel makes.
@@ -30,6 +36,14 @@ pub enum IntRow<'a> {
     Reduced(ReducedInts<'a>),
     CarriedOver(CarriedOver<'a, ScanZ, i64>),
     Scanned(Scanned<'a, ScanZ, i64>),
+    Repeated(Repeated<i64>),
+    Rising(Rising),
+    Distributed(Distributed<'a, i64>),
+    RisingSegments(RisingSegments<'a>),
+    GatheredSegments(GatheredSegments<'a, i64>),
+    PermutedSegments(PermutedSegments<'a, i64>),
+    SetNumbers(SetNumbers<'a>),
+    Packed(Packed<'a, i64>),
 }
 
 /// How many integers there are.
@@ -48,6 +62,14 @@ pub fn count_ints(row: IntRow<'_>) -> usize
         IntRow::Reduced(list) => count_reduced_ints(list),
         IntRow::CarriedOver(list) => list.count(),
         IntRow::Scanned(list) => list.count(),
+        IntRow::Repeated(list) => list.count(),
+        IntRow::Rising(list) => list.count(),
+        IntRow::Distributed(list) => list.count(),
+        IntRow::RisingSegments(list) => list.count(),
+        IntRow::GatheredSegments(list) => list.count(),
+        IntRow::PermutedSegments(list) => list.count(),
+        IntRow::SetNumbers(list) => count_set_numbers(list),
+        IntRow::Packed(list) => list.count(),
     }
 }
 
@@ -69,6 +91,14 @@ pub fn write_ints(row: IntRow<'_>, start: usize, part: &mut [i64])
         IntRow::Reduced(list) => write_reduced_ints(list, start, part),
         IntRow::CarriedOver(list) => write_from(&list, start, part),
         IntRow::Scanned(list) => write_scanned_ints(list, start, part),
+        IntRow::Repeated(list) => write_from(&list, start, part),
+        IntRow::Rising(list) => write_from(&list, start, part),
+        IntRow::Distributed(list) => write_segments(&list, start, part),
+        IntRow::RisingSegments(list) => write_segments(&list, start, part),
+        IntRow::GatheredSegments(list) => write_segments(&list, start, part),
+        IntRow::PermutedSegments(list) => write_segments(&list, start, part),
+        IntRow::SetNumbers(list) => write_set_numbers(list, start, part),
+        IntRow::Packed(list) => write_segments(&list, start, part),
     }
 }
 
@@ -107,6 +137,11 @@ pub enum BoolRow<'a> {
     Reduced(ReducedBools<'a>),
     CarriedOver(CarriedOver<'a, ScanB, bool>),
     Scanned(Scanned<'a, ScanB, bool>),
+    Repeated(Repeated<bool>),
+    Distributed(Distributed<'a, bool>),
+    GatheredSegments(GatheredSegments<'a, bool>),
+    PermutedSegments(PermutedSegments<'a, bool>),
+    Packed(Packed<'a, bool>),
 }
 
 /// How many truth values there are.
@@ -126,6 +161,11 @@ pub fn count_bools(row: BoolRow<'_>) -> usize
         BoolRow::Reduced(list) => count_reduced_bools(list),
         BoolRow::CarriedOver(list) => list.count(),
         BoolRow::Scanned(list) => list.count(),
+        BoolRow::Repeated(list) => list.count(),
+        BoolRow::Distributed(list) => list.count(),
+        BoolRow::GatheredSegments(list) => list.count(),
+        BoolRow::PermutedSegments(list) => list.count(),
+        BoolRow::Packed(list) => list.count(),
     }
 }
 
@@ -148,6 +188,11 @@ pub fn write_bools(row: BoolRow<'_>, start: usize, part: &mut [bool])
         BoolRow::Reduced(list) => write_reduced_bools(list, start, part),
         BoolRow::CarriedOver(list) => write_from(&list, start, part),
         BoolRow::Scanned(list) => write_scanned_bools(list, start, part),
+        BoolRow::Repeated(list) => write_from(&list, start, part),
+        BoolRow::Distributed(list) => write_segments(&list, start, part),
+        BoolRow::GatheredSegments(list) => write_segments(&list, start, part),
+        BoolRow::PermutedSegments(list) => write_segments(&list, start, part),
+        BoolRow::Packed(list) => write_segments(&list, start, part),
     }
 }
 

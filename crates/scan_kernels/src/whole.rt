@@ -10,14 +10,16 @@ ghost use Rattle.scan_kernels.specs.Metering.{CountsRun, raised};
 ghost use Rattle.scan_kernels.specs.Segmented.{reduced, scanned};
 
 use crate::choices::{by_name, by_scan_b, by_scan_z};
-use crate::chunks::write_size;
+use crate::chunks::{bools_by_chunks, ints_by_chunks, write_size};
 use crate::execution::Execution;
 use crate::fill::repeat;
+use crate::fills::{Repeated, Rising};
 use crate::indices::index_segment;
 use crate::meter::Meter;
 use crate::reduce::reduce_segment;
 use crate::reduction_sizes::items_size;
 use crate::reductions_by_chunks::{reduce_bools_by_chunks, reduce_ints_by_chunks};
+use crate::rows::{BoolRow, IntRow};
 use crate::scan::scan_segment;
 use crate::scans_by_chunks::{scan_bools_by_chunks, scan_ints_by_chunks};
 use crate::source::Source;
@@ -129,7 +131,7 @@ pub(crate) fn chosen_reduction_b(op: ScanB, items: &[bool]) -> bool
 
 /// The integer so many times, in one pass into a vector of its final size.
 pub fn repeat_z(
-    _execution: &impl Execution,
+    execution: &impl Execution,
     alloc: impl Source<i64>,
     meter: &mut Meter,
     item: i64,
@@ -139,14 +141,20 @@ pub fn repeat_z(
     ensures exact { IfOk result (λ v. IsExact v) }
     ensures counted { CountsRun result meter.old meter.new }
 {
-    let made = repeated(alloc, item, count)?;
+    let made = match write_size(execution, &alloc, meter, count) {
+        Some(size) => {
+            let row = IntRow::Repeated(Repeated { item, count });
+            ints_by_chunks(execution, alloc, row, size)?
+        }
+        None => repeated(alloc, item, count)?,
+    };
     meter.raise();
     Ok(made)
 }
 
 /// The truth value so many times, in one pass into a vector of its final size.
 pub fn repeat_b(
-    _execution: &impl Execution,
+    execution: &impl Execution,
     alloc: impl Source<bool>,
     meter: &mut Meter,
     item: bool,
@@ -156,7 +164,13 @@ pub fn repeat_b(
     ensures exact { IfOk result (λ v. IsExact v) }
     ensures counted { CountsRun result meter.old meter.new }
 {
-    let made = repeated(alloc, item, count)?;
+    let made = match write_size(execution, &alloc, meter, count) {
+        Some(size) => {
+            let row = BoolRow::Repeated(Repeated { item, count });
+            bools_by_chunks(execution, alloc, row, size)?
+        }
+        None => repeated(alloc, item, count)?,
+    };
     meter.raise();
     Ok(made)
 }
@@ -177,7 +191,7 @@ pub(crate) fn repeated<T: Copy + Send + Sync>(
 
 /// So many integers from the start on by the stride, which wrap, in one pass into a vector of its final size.
 pub fn index_whole(
-    _execution: &impl Execution,
+    execution: &impl Execution,
     alloc: impl Source<i64>,
     meter: &mut Meter,
     start: i64,
@@ -189,7 +203,17 @@ pub fn index_whole(
     ensures exact { IfOk result (λ v. IsExact v) }
     ensures counted { CountsRun result meter.old meter.new }
 {
-    let made = rising(alloc, start, stride, count)?;
+    let made = match write_size(execution, &alloc, meter, count) {
+        Some(size) => {
+            let row = IntRow::Rising(Rising {
+                start,
+                stride,
+                count,
+            });
+            ints_by_chunks(execution, alloc, row, size)?
+        }
+        None => rising(alloc, start, stride, count)?,
+    };
     meter.raise();
     Ok(made)
 }

@@ -4,8 +4,7 @@ ghost use Rattle.std.specs.Prelude.{◌≡◌, length};
 ghost use Rattle.segment_desc.specs.Cut.{joined};
 ghost use Rattle.scan_kernels.specs.Packed.{packed};
 
-use crate::pack::{BLOCK, kept};
-use scan_kernels::{JoinedKernel, Kernel, run_parts};
+use scan_kernels::{JoinedKernel, Kernel, PACK_BLOCK, packed, run_parts};
 use segment_desc::Segd;
 use std::alloc::{AllocError, Global};
 
@@ -22,7 +21,7 @@ impl<'a> Kernel<(&'a [i64], &'a [bool])> for Pack {
 
     #[inline(always)]
     fn run(self, alloc: Global, part: &(&'a [i64], &'a [bool])) -> Result<Vec<i64>, AllocError> {
-        kept(alloc, part.0, part.1, &mut [0; BLOCK])
+        packed(alloc, part.0, part.1, &mut [0; PACK_BLOCK])
     }
 }
 
@@ -45,7 +44,7 @@ impl<'a> Kernel<(&'a [bool], &'a [bool])> for Pack {
 
     #[inline(always)]
     fn run(self, alloc: Global, part: &(&'a [bool], &'a [bool])) -> Result<Vec<bool>, AllocError> {
-        kept(alloc, part.0, part.1, &mut [false; BLOCK])
+        packed(alloc, part.0, part.1, &mut [false; PACK_BLOCK])
     }
 }
 
@@ -76,7 +75,7 @@ impl<'a> Kernel<(&'a [i64], &'a [bool], &'a Segd)> for PackSegments {
         alloc: Global,
         part: &(&'a [i64], &'a [bool], &'a Segd),
     ) -> Result<Vec<i64>, AllocError> {
-        kept(alloc, part.0, part.1, &mut [0; BLOCK])
+        packed(alloc, part.0, part.1, &mut [0; PACK_BLOCK])
     }
 }
 
@@ -103,7 +102,7 @@ impl<'a> Kernel<(&'a [bool], &'a [bool], &'a Segd)> for PackSegments {
         alloc: Global,
         part: &(&'a [bool], &'a [bool], &'a Segd),
     ) -> Result<Vec<bool>, AllocError> {
-        kept(alloc, part.0, part.1, &mut [false; BLOCK])
+        packed(alloc, part.0, part.1, &mut [false; PACK_BLOCK])
     }
 }
 

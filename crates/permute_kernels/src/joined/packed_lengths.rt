@@ -3,8 +3,7 @@
 ghost use Rattle.std.specs.Prelude.{◌≡◌, length, sum};
 ghost use Rattle.scan_kernels.specs.Packed.{numbers_set};
 
-use crate::pack::count_each;
-use scan_kernels::{JoinedKernel, Kernel, run_parts};
+use scan_kernels::{JoinedKernel, Kernel, run_parts, set_numbers};
 use segment_desc::Segd;
 use std::alloc::{AllocError, Global};
 
@@ -21,7 +20,7 @@ impl<'a> Kernel<(&'a [bool], &'a Segd)> for PackLengths {
 
     #[inline(always)]
     fn run(self, alloc: Global, part: &(&'a [bool], &'a Segd)) -> Result<Vec<i64>, AllocError> {
-        count_each(alloc, part.0, part.1.lengths())
+        set_numbers(alloc, part.0, part.1.lengths())
     }
 }
 

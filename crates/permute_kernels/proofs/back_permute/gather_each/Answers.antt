@@ -2,7 +2,7 @@ use Rattle.std.proofs.Common.{◌+◌, ◌-◌, ◌++◌, ap, drop, get_or, sym,
 use Rattle.scan_kernels.proofs.NextSegment.{sum-take_more}
 use Rattle.scan_kernels.specs.Gathered.{gathered}
 use Rattle.permute_kernels.proofs.Gathering.{places_of_segment, segmented_gather_more}
-use Rattle.permute_kernels.proofs.Segments.{length_segment}
+use Rattle.scan_kernels.proofs.Segments.{length_segment}
 use Rattle.scan_kernels.proofs.UndoneMoves.{length-gathered}
 use Rattle.permute_kernels.proofs.back_permute.gather_each.Goals as goal
 

@@ -2,7 +2,7 @@ use Rattle.std.proofs.Common.{IsTrue, arith, rules, subst}
 use Rattle.std.proofs.lemmas.List.{take_all}
 use Rattle.scan_kernels.proofs.NextSegment.{sum-take_more}
 use Rattle.scan_kernels.specs.Indices.{HoldsEachPlaceOnce, PermuteSegments}
-use Rattle.permute_kernels.proofs.Segments.{All_segment, All-cut_more}
+use Rattle.scan_kernels.proofs.Segments.{All_segment, All-cut_more}
 use Rattle.permute_kernels.proofs.conditions.permutes_each.Goals as goal
 
 pub returns-then-not-holds_each_once : goal.returns-then-not-holds_each_once

@@ -2,7 +2,7 @@ use Rattle.std.proofs.Common.{arith}
 use Rattle.scan_kernels.proofs.NextSegment.{sum-take_more}
 use Rattle.scan_kernels.specs.Indices.{HoldsEachPlaceOnce, PermuteSegments}
 use Rattle.permute_kernels.proofs.Placing.{length_written, permuted_by_all, permuted_more}
-use Rattle.permute_kernels.proofs.Segments.{All_segment}
+use Rattle.scan_kernels.proofs.Segments.{All_segment}
 use Rattle.scan_kernels.proofs.Sending.{segmented_permute_is}
 use Rattle.permute_kernels.proofs.permute.scatter_each.Goals as goal
 

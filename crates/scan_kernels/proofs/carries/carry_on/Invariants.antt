@@ -1,4 +1,4 @@
-use Rattle.std.proofs.Common.{◌≡◌, ℕ, ◌+◌, ◌<◌, get_or, drop}
+use Rattle.std.proofs.Common.{◌≡◌, ℕ, ◌+◌, ◌<◌, get_or}
 use Rattle.scan_kernels.specs.Pairs.{join_pairs}
 use Rattle.std.specs.Prelude.{false}
 use Rattle.scan_kernels.specs.declared.edges.Edge.{Edge}

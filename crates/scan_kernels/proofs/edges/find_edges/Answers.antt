@@ -1,7 +1,5 @@
-use Rattle.std.proofs.Common.{arith, rules, ◌≡◌, ◌+◌, ◌*◌, ◌<◌, ap, get_or, set, subst, sym, length, ℕ}
-use Rattle.std.proofs.lemmas.List.{get_or-set_same, get_or-set_other}
+use Rattle.std.proofs.Common.{arith, rules, sym}
 use Rattle.scan_kernels.specs.Edges.{IsEdge}
-use Rattle.scan_kernels.specs.declared.edges.Edge.{Edge}
 use Rattle.scan_kernels.proofs.Carried.{below_set, next_place}
 use Rattle.scan_kernels.proofs.edges.find_edges.Goals as goal
 

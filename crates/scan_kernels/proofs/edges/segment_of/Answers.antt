@@ -1,5 +1,3 @@
-use Rattle.std.proofs.Common.{arith, ◌<◌, length}
-use Rattle.scan_kernels.proofs.NextSegment.{sum-take_more}
 use Rattle.scan_kernels.proofs.Carried.{segment_within_list}
 use Rattle.scan_kernels.proofs.edges.segment_of.Goals as goal
 

@@ -1,4 +1,4 @@
-use Rattle.std.proofs.Common.{drop, get_or, ap, sym, ◌∙◌, ◌++◌, ◌∷◌, [], arith}
+use Rattle.std.proofs.Common.{drop, get_or, ap, ◌∙◌, arith}
 use Rattle.std.proofs.lemmas.List.{take_more_set}
 use Rattle.scan_kernels.proofs.NextSegment.{drop-take_more, segmented_reduce-take_more}
 use Rattle.scan_kernels.proofs.reductions.reduce_each_over.Goals as goal

@@ -1,4 +1,4 @@
-use Rattle.std.proofs.Common.{arith, rules, ◌≡◌, ◌∙◌, ◌+◌, ◌<◌, ap, sym, length, map, get_or, slice_get, Some, List, ℕ}
+use Rattle.std.proofs.Common.{arith, rules, ◌≡◌, ◌∙◌, ◌<◌, ap, length, get_or}
 use Rattle.std.proofs.lemmas.List.{get_or-map, length-map}
 use Rattle.item_operations.specs.BooleanScans.{combine_b, unit_b}
 use Rattle.scan_kernels.specs.Edges.{carried_over}

@@ -1,4 +1,4 @@
-use Rattle.std.proofs.Common.{arith, rules, ◌≡◌, ◌∙◌, ◌+◌, ◌<◌, ap, sym, length, map, get_or, slice_get, Some, List, ℤ, FitsSigned, w64, ℕ}
+use Rattle.std.proofs.Common.{arith, rules, ◌≡◌, ◌∙◌, ◌<◌, ap, length, get_or, FitsSigned, w64}
 use Rattle.std.proofs.lemmas.List.{get_or-map, length-map}
 use Rattle.item_operations.specs.IntegerScans.{combine_z, unit_z}
 use Rattle.scan_kernels.specs.Edges.{carried_over}

@@ -1,4 +1,4 @@
-use Rattle.std.proofs.Common.{arith, ◌≡◌, ◌∙◌, ◌-◌, ◌*◌, ◌/◌, ap, sym, take, drop, get_or}
+use Rattle.std.proofs.Common.{arith, ◌∙◌, ◌-◌, ◌*◌, ◌/◌, ap, sym, take, drop}
 use Rattle.std.specs.List.{fold}
 use Rattle.std.proofs.Math.Nat.{div-mul-le_self}
 use Rattle.std.proofs.lemmas.Option.{get_or_from_slice_get}

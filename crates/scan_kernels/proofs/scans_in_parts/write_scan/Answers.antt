@@ -1,4 +1,4 @@
-use Rattle.std.proofs.Common.{arith, ◌≡◌, ◌∙◌, ◌*◌, ◌/◌, ◌<◌, length}
+use Rattle.std.proofs.Common.{arith, ◌∙◌, ◌*◌, ◌/◌, ◌<◌, length}
 use Rattle.std.proofs.Math.Nat.{div-mul-le_self}
 use Rattle.scan_kernels.specs.Segmented.{segmented_scan}
 use Rattle.scan_kernels.proofs.Carried.{scan-item}

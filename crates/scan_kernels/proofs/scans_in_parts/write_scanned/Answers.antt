@@ -1,5 +1,4 @@
-use Rattle.std.proofs.Common.{arith, ◌≡◌, ◌∙◌, ◌++◌, ap, sym, take, drop, length, get_or, Some, slice_get, ◌+◌, zero-add}
-use Rattle.std.specs.List.{fold}
+use Rattle.std.proofs.Common.{arith, ◌≡◌, ◌∙◌, ◌++◌, ap, sym, take, get_or, Some, slice_get, ◌+◌, zero-add}
 use Rattle.std.proofs.lemmas.List.{append-nil, drop_all, take_more, take_all}
 use Rattle.scan_kernels.specs.Segmented.{scanned}
 use Rattle.scan_kernels.proofs.Scanned.{fold_push, length-scanned, slice_get-scanned}

@@ -1,4 +1,4 @@
-use Rattle.std.proofs.Common.{arith, ◌≡◌, ◌∙◌, ◌+◌, ◌-◌, ◌<◌, ◌≤◌, ap, sym, take, drop, length, get_or, sum}
+use Rattle.std.proofs.Common.{arith, ◌≡◌, ◌∙◌, ◌+◌, ◌-◌, ◌<◌, ap, sym, take, drop, length}
 use Rattle.std.specs.List.{fold}
 use Rattle.std.proofs.lemmas.List.{length-drop, length-take-le, drop-drop, take-take, take_all}
 use Rattle.scan_kernels.specs.Segmented.{scanned, segmented_scan}

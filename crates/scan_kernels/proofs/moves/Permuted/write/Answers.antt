@@ -1,10 +1,9 @@
-use Rattle.std.proofs.Common.{arith, rules, ◌≡◌, ◌∙◌, ◌+◌, ◌<◌, ◌≤◌, ◌≤ℤ◌, ap, sym, subst, pos, get_or, set, length, take, drop, w64, to_z, of_z}
+use Rattle.std.proofs.Common.{arith, rules, ◌≡◌, ◌∙◌, ◌+◌, ◌<◌, ◌≤ℤ◌, ap, sym, subst, pos, get_or, length, take, drop, w64, to_z, of_z}
 use Rattle.std.proofs.lemmas.Int.{ints}
 use Rattle.std.proofs.lemmas.List.{length-set}
 use Rattle.scan_kernels.specs.Permuted.{permuted}
 use Rattle.scan_kernels.proofs.Counting.{each_inside}
 use Rattle.scan_kernels.proofs.PartMoves.{PartPlaced, falls_into, part_hit, part_missed, part_whole}
-use Rattle.scan_kernels.proofs.Places.{place_below}
 use Rattle.scan_kernels.proofs.UndoneMoves.{IsPermuted-permuted}
 use Rattle.scan_kernels.proofs.moves.Permuted.write.Goals as goal
 use Rattle.scan_kernels.proofs.moves.Permuted.write.Goals.{then-behind-part, else-behind-part}
