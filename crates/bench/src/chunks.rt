@@ -3,12 +3,12 @@
 
 use crate::inputs::Inputs;
 use crate::runs::Failure;
-use permute_kernels::{are_places, gather_z};
+use permute_kernels::{are_places, gather_z, pack_z};
 use scan_kernels::{
-    Execution, Kept, Meter, ScanZ, Sequential, Z2, map2_z, reduce_whole_z, reduce_z, scan_whole_z,
-    scan_z, select_z,
+    Execution, Kept, Meter, ScanZ, Sequential, Z2, distribute_z, index_whole, map2_z,
+    reduce_whole_z, reduce_z, scan_whole_z, scan_z, select_z,
 };
-use segment_desc::Segd;
+use segment_desc::{LIMIT, Segd};
 use std::alloc::Global;
 use std::rt::Clock;
 use std::thread::Threads;
@@ -31,10 +31,13 @@ enum Row {
     Reduce,
     SegmentedReduce,
     Gather,
+    Pack,
+    Distribute,
+    Index,
 }
 
 /// In the order of the rows.
-const ROWS: [Row; 7] = [
+const ROWS: [Row; 10] = [
     Row::Add,
     Row::Select,
     Row::Scan,
@@ -42,6 +45,9 @@ const ROWS: [Row; 7] = [
     Row::Reduce,
     Row::SegmentedReduce,
     Row::Gather,
+    Row::Pack,
+    Row::Distribute,
+    Row::Index,
 ];
 
 impl Row {
@@ -54,6 +60,9 @@ impl Row {
             Row::Reduce => "reduce",
             Row::SegmentedReduce => "segreduce",
             Row::Gather => "gather",
+            Row::Pack => "pack",
+            Row::Distribute => "distribute",
+            Row::Index => "index",
         }
     }
 
@@ -80,6 +89,9 @@ impl Row {
             }
             Row::SegmentedReduce => reduce(execution, meter, items, &inputs.mixed, kept),
             Row::Gather => gather(execution, meter, items, &inputs.index, kept),
+            Row::Pack => pack(execution, meter, items, flags, kept),
+            Row::Distribute => distribute(execution, meter, items, &inputs.mixed, kept),
+            Row::Index => index(execution, meter, items.len(), kept),
         }
     }
 }
@@ -163,6 +175,45 @@ fn gather(
         return Err(Failure::Uneven);
     }
     Ok(gather_z(execution, Kept::new(kept), meter, items, index)?)
+}
+
+fn pack(
+    execution: &impl Execution,
+    meter: &mut Meter,
+    items: &[i64],
+    flags: &[bool],
+    kept: Vec<i64>,
+) -> Result<Vec<i64>, Failure> {
+    if flags.len() != items.len() {
+        return Err(Failure::Uneven);
+    }
+    Ok(pack_z(execution, Kept::new(kept), meter, items, flags)?)
+}
+
+// The first items, as many as there are segments.
+fn distribute(
+    execution: &impl Execution,
+    meter: &mut Meter,
+    items: &[i64],
+    segments: &Segd,
+    kept: Vec<i64>,
+) -> Result<Vec<i64>, Failure> {
+    let Some(values) = items.get(..segments.count()) else {
+        return Err(Failure::Uneven);
+    };
+    Ok(distribute_z(execution, Kept::new(kept), meter, values, segments)?)
+}
+
+fn index(
+    execution: &impl Execution,
+    meter: &mut Meter,
+    count: usize,
+    kept: Vec<i64>,
+) -> Result<Vec<i64>, Failure> {
+    if count > LIMIT {
+        return Err(Failure::Uneven);
+    }
+    Ok(index_whole(execution, Kept::new(kept), meter, 3, 5, count)?)
 }
 
 /// The time of one run, in nanoseconds. A fresh result is one for which nothing is kept.

@@ -4,8 +4,9 @@
 use crate::cut::cut;
 use crate::made::is_made;
 use scan_kernels::{
-    B1, B2, Cmp, Kept, Meter, ScanB, ScanZ, Sequential, Z1, Z2, compare2, map1_b, map1_z, map2_b,
-    map2_z, number, reduce_b, reduce_whole_b, reduce_whole_z, reduce_z, scan_b, scan_whole_b,
+    B1, B2, Cmp, Kept, Meter, ScanB, ScanZ, Sequential, Z1, Z2, compare2, distribute_b,
+    distribute_z, index, index_whole, map1_b, map1_z, map2_b, map2_z, number, reduce_b,
+    reduce_whole_b, reduce_whole_z, reduce_z, repeat_b, repeat_z, scan_b, scan_whole_b,
     scan_whole_z, scan_z, select_b, select_z, truth,
 };
 use std::process::Abort;
@@ -179,6 +180,59 @@ fn tells_before_which_items_of_a_segment_an_odd_number_is_true(
         false, true, true, false, false, true, true, false, false, false,
     ];
     by_chunks!(rt, true, wanted, scan_b, ScanB::Xor, &FLAGS, &segments);
+    Ok(())
+}
+
+#[test]
+fn repeats_an_item(rt: HostRuntime) -> Result<(), Fail> {
+    by_chunks!(rt, 7i64, [-5i64; 10], repeat_z, -5, 10);
+    by_chunks!(rt, false, [true; 9], repeat_b, true, 9);
+    Ok(())
+}
+
+#[test]
+fn rises_by_a_stride(rt: HostRuntime) -> Result<(), Fail> {
+    let wanted = [3i64, 1, -1, -3, -5, -7, -9, -11, -13, -15];
+    by_chunks!(rt, 7i64, wanted, index_whole, 3, -2, 10);
+    Ok(())
+}
+
+#[test]
+fn gives_out_integers(rt: HostRuntime) -> Result<(), Fail> {
+    let segments = cut(rt.alloc(), &LENGTHS)?;
+    assert!(rt; segments.count() == 7);
+    let wanted = [2i64, 2, 2, 3, 5, 5, 5, 5, 7, 7];
+    by_chunks!(
+        rt,
+        7i64,
+        wanted,
+        distribute_z,
+        &[1, 2, 3, 4, 5, 6, 7],
+        &segments
+    );
+    Ok(())
+}
+
+#[test]
+fn gives_out_truth_values(rt: HostRuntime) -> Result<(), Fail> {
+    let segments = cut(rt.alloc(), &LENGTHS)?;
+    assert!(rt; segments.count() == 7);
+    let flags = [true, false, true, true, false, true, true];
+    let wanted = [
+        false, false, false, true, false, false, false, false, true, true,
+    ];
+    by_chunks!(rt, false, wanted, distribute_b, &flags, &segments);
+    Ok(())
+}
+
+#[test]
+fn rises_in_each_segment(rt: HostRuntime) -> Result<(), Fail> {
+    let segments = cut(rt.alloc(), &LENGTHS)?;
+    assert!(rt; segments.count() == 7);
+    let starts = [9, 0, 5, 9, -1, 9, 100];
+    let strides = [9, 2, 0, 9, 1, 9, -50];
+    let wanted = [0i64, 2, 4, 5, -1, 0, 1, 2, 100, 50];
+    by_chunks!(rt, 7i64, wanted, index, &starts, &strides, &segments);
     Ok(())
 }
 
