@@ -65,6 +65,7 @@ pub fn gather_b(
     Ok(made)
 }
 
+#[inline(never)]
 pub(crate) fn gathered<T: Copy + Send + Sync>(
     alloc: impl Source<T>,
     items: &[T],

@@ -10,6 +10,7 @@ use scan_kernels::{
     packed_bools_by_chunks, packed_ints_by_chunks, segments_size, set_numbers,
 };
 use segment_desc::{OutOfMemory, Segd};
+use std::alloc::AllocError;
 
 /// The integers whose flag is set, in order. There are as many flags as integers. A pass that counts the flags, and one
 /// into a vector of the final size.
@@ -27,7 +28,7 @@ pub fn pack_z(
 {
     let made = match pack_size(execution, meter, items.len()) {
         Some(size) => packed_ints_by_chunks(execution, alloc, items, flags, size)?,
-        None => packed(alloc, items, flags, &mut [0; PACK_BLOCK])?,
+        None => packed_ints(alloc, items, flags)?,
     };
     meter.raise();
     Ok(made)
@@ -48,10 +49,37 @@ pub fn pack_b(
 {
     let made = match pack_size(execution, meter, truths.len()) {
         Some(size) => packed_bools_by_chunks(execution, alloc, truths, flags, size)?,
-        None => packed(alloc, truths, flags, &mut [false; PACK_BLOCK])?,
+        None => packed_bools(alloc, truths, flags)?,
     };
     meter.raise();
     Ok(made)
+}
+
+// Apart from what goes by chunks, so that the loop is built alike for each policy, over a buffer of a known size.
+#[inline(never)]
+fn packed_ints(
+    alloc: impl Source<i64>,
+    items: &[i64],
+    flags: &[bool],
+) -> Result<Vec<i64>, AllocError>
+    requires { length flags.now ≡ length items.now }
+    ensures items { IfOk result (λ v. v.items ≡ packed flags.now items.now) }
+    ensures exact { IfOk result (λ v. IsExact v) }
+{
+    packed(alloc, items, flags, &mut [0; PACK_BLOCK])
+}
+
+#[inline(never)]
+fn packed_bools(
+    alloc: impl Source<bool>,
+    truths: &[bool],
+    flags: &[bool],
+) -> Result<Vec<bool>, AllocError>
+    requires { length flags.now ≡ length truths.now }
+    ensures items { IfOk result (λ v. v.items ≡ packed flags.now truths.now) }
+    ensures exact { IfOk result (λ v. IsExact v) }
+{
+    packed(alloc, truths, flags, &mut [false; PACK_BLOCK])
 }
 
 /// How many flags are set in each segment, in one pass. The segments have all the flags together.

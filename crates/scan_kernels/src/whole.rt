@@ -10,7 +10,7 @@ ghost use Rattle.scan_kernels.specs.Metering.{CountsRun, raised};
 ghost use Rattle.scan_kernels.specs.Segmented.{reduced, scanned};
 
 use crate::choices::{by_name, by_scan_b, by_scan_z};
-use crate::chunks::{bools_by_chunks, ints_by_chunks, write_size};
+use crate::chunks::{bools_by_chunks, fill_size, ints_by_chunks, write_size};
 use crate::execution::Execution;
 use crate::fill::repeat;
 use crate::fills::{Repeated, Rising};
@@ -141,7 +141,7 @@ pub fn repeat_z(
     ensures exact { IfOk result (λ v. IsExact v) }
     ensures counted { CountsRun result meter.old meter.new }
 {
-    let made = match write_size(execution, &alloc, meter, count) {
+    let made = match fill_size(execution, &alloc, meter, count) {
         Some(size) => {
             let row = IntRow::Repeated(Repeated { item, count });
             ints_by_chunks(execution, alloc, row, size)?
@@ -164,7 +164,7 @@ pub fn repeat_b(
     ensures exact { IfOk result (λ v. IsExact v) }
     ensures counted { CountsRun result meter.old meter.new }
 {
-    let made = match write_size(execution, &alloc, meter, count) {
+    let made = match fill_size(execution, &alloc, meter, count) {
         Some(size) => {
             let row = BoolRow::Repeated(Repeated { item, count });
             bools_by_chunks(execution, alloc, row, size)?
@@ -203,7 +203,7 @@ pub fn index_whole(
     ensures exact { IfOk result (λ v. IsExact v) }
     ensures counted { CountsRun result meter.old meter.new }
 {
-    let made = match write_size(execution, &alloc, meter, count) {
+    let made = match fill_size(execution, &alloc, meter, count) {
         Some(size) => {
             let row = IntRow::Rising(Rising {
                 start,
