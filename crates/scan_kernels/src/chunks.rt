@@ -1,8 +1,9 @@
 //! Whether a kernel goes by chunks, and of how many items.
 
-ghost use Rattle.std.specs.Prelude.{◌≡◌, ◌*◌, ◌<◌, ◌≤◌, IfOk, IfSome, IsTrue};
+ghost use Rattle.std.specs.Prelude.{◌≡◌, ◌*◌, ◌<◌, ◌≤◌, true, is_some, IfOk, IfSome, IsTrue};
 ghost use Rattle.segment_desc.specs.Appended.{IsExact};
 ghost use Rattle.scan_kernels.specs.Lists.{FitBools, FitInts, bools_of, ints_of};
+ghost use Rattle.scan_kernels.specs.Metering.{HeedsChunk, default_chunk};
 
 use crate::execution::Execution;
 use crate::meter::{DEFAULT_CHUNK, Meter};
@@ -14,9 +15,8 @@ use std::alloc::AllocError;
 /// four processors, where they lost at half as many.
 const WRITES_PAY: usize = 1_000_000;
 
-/// The size of the chunks in which a kernel makes so many items one by one, if it goes by chunks. A size that a caller made
-/// smaller than `DEFAULT_CHUNK` is heeded always. Else there are no more chunks than processors, and there are chunks only
-/// where they pay: into fresh memory one thread is as fast as many, since most of the time goes into getting its pages.
+/// The size of the chunks in which a kernel makes so many items one by one, if it goes by chunks: where they pay, into memory that
+/// is in use already, since into fresh memory one thread is as fast as many, most of whose time goes into getting its pages.
 #[inline(always)]
 pub(crate) fn write_size<T: Copy>(
     execution: &impl Execution,
@@ -24,13 +24,11 @@ pub(crate) fn write_size<T: Copy>(
     meter: &Meter,
     count: usize,
 ) -> Option<usize>
-    ensures { IfSome result (λ size. 0 < size) }
+    ensures size { IfSome result (λ size. 0 < size) }
+    ensures heeded { HeedsChunk meter.now count result }
 {
-    if count <= meter.chunk() {
-        return None;
-    }
     let pays = count >= WRITES_PAY && source.is_ready(count);
-    chunk_size(execution, meter.chunk(), count, pays)
+    chunk_size(execution, meter, count, pays)
 }
 
 /// From how many items on it repays to start threads that fill memory that is in use already and read nothing: they lost at
@@ -45,13 +43,11 @@ pub(crate) fn fill_size<T: Copy>(
     meter: &Meter,
     count: usize,
 ) -> Option<usize>
-    ensures { IfSome result (λ size. 0 < size) }
+    ensures size { IfSome result (λ size. 0 < size) }
+    ensures heeded { HeedsChunk meter.now count result }
 {
-    if count <= meter.chunk() {
-        return None;
-    }
     let pays = count >= FILLS_PAY && source.is_ready(count);
-    chunk_size(execution, meter.chunk(), count, pays)
+    chunk_size(execution, meter, count, pays)
 }
 
 /// The size of the chunks in which a kernel makes so many items segment by segment, if it goes by chunks. There are few, since each
@@ -63,10 +59,12 @@ pub(crate) fn segmented_size<T: Copy>(
     meter: &Meter,
     count: usize,
 ) -> Option<usize>
-    ensures { IfSome result (λ size. 0 < size) }
+    ensures size { IfSome result (λ size. 0 < size) }
+    ensures heeded { HeedsChunk meter.now count result }
+    ensures few { IfSome result (λ size. count ≤ MOST_CHUNKS * size) }
 {
-    let size = write_size(execution, source, meter, count)?;
-    Some(size_of_few(count, size))
+    let pays = count >= WRITES_PAY && source.is_ready(count);
+    few_size(execution, meter, count, pays)
 }
 
 /// From how many items on it repays a caller to look up its operands once more and write a result over one of them, in place of
@@ -87,15 +85,29 @@ pub fn overwrites_pay(
     count >= OVERWRITES_PAY && write_size(execution, source, meter, count).is_none()
 }
 
-/// The size of the chunks of more items than one chunk has.
+/// The size of the chunks of so many items, if they go by chunks: where they are more than one chunk has. A size that a caller made
+/// smaller than `DEFAULT_CHUNK` is heeded always. Else there are no more chunks than processors, and only where they pay.
+#[inline(always)]
 pub(crate) fn chunk_size(
     execution: &impl Execution,
-    chunk: usize,
+    meter: &Meter,
     count: usize,
     pays: bool,
 ) -> Option<usize>
+    ensures size { IfSome result (λ size. 0 < size) }
+    ensures heeded { HeedsChunk meter.now count result }
+{
+    if count <= meter.chunk() {
+        return None;
+    }
+    size_of_many(execution, meter.chunk(), count, pays)
+}
+
+/// The size of the chunks of more items than one chunk has.
+fn size_of_many(execution: &impl Execution, chunk: usize, count: usize, pays: bool) -> Option<usize>
     requires { 0 < chunk }
-    ensures { IfSome result (λ size. 0 < size) }
+    ensures size { IfSome result (λ size. 0 < size) }
+    ensures heeded { chunk < default_chunk → is_some result ≡ true }
 {
     if chunk < DEFAULT_CHUNK {
         return Some(chunk);
@@ -117,17 +129,11 @@ const GATHERS_PAY: usize = 262_144;
 /// The size of the chunks in which a kernel reads so many items at scattered places, if it goes by chunks: where they pay, into
 /// fresh memory as well, since most of the time goes into the reads.
 pub fn gather_size(execution: &impl Execution, meter: &Meter, count: usize) -> Option<usize>
-    ensures { IfSome result (λ size. 0 < size) }
+    ensures size { IfSome result (λ size. 0 < size) }
+    ensures heeded { HeedsChunk meter.now count result }
 {
-    if count <= meter.chunk() {
-        return None;
-    }
-    chunk_size(execution, meter.chunk(), count, count >= GATHERS_PAY)
+    chunk_size(execution, meter, count, count >= GATHERS_PAY)
 }
-
-/// From how many items on threads are started that each go through a whole index and write what falls into their part, also into
-/// fresh memory: later than for gathers, since each reads the whole index, and not measured by itself.
-const PERMUTES_PAY: usize = 1_000_000;
 
 /// The greatest number of chunks where each goes through the operands from their beginning, or where what is known of each lies
 /// on the stack.
@@ -142,16 +148,29 @@ pub(crate) fn size_of_few(count: usize, size: usize) -> usize
     size.max(count.div_ceil(MOST_CHUNKS))
 }
 
+/// `chunk_size`, of few chunks.
+#[inline(always)]
+fn few_size(execution: &impl Execution, meter: &Meter, count: usize, pays: bool) -> Option<usize>
+    ensures size { IfSome result (λ size. 0 < size) }
+    ensures heeded { HeedsChunk meter.now count result }
+    ensures few { IfSome result (λ size. count ≤ MOST_CHUNKS * size) }
+{
+    let size = chunk_size(execution, meter, count, pays)?;
+    Some(size_of_few(count, size))
+}
+
+/// From how many items on threads are started that each go through a whole index and write what falls into their part, also into
+/// fresh memory: later than for gathers, since each reads the whole index, and not measured by itself.
+const PERMUTES_PAY: usize = 1_000_000;
+
 /// The size of the chunks in which a kernel moves so many items to scattered places, if it goes by chunks. There are few, since
 /// each goes through the whole index.
 pub fn permute_size(execution: &impl Execution, meter: &Meter, count: usize) -> Option<usize>
-    ensures { IfSome result (λ size. 0 < size) }
+    ensures size { IfSome result (λ size. 0 < size) }
+    ensures heeded { HeedsChunk meter.now count result }
+    ensures few { IfSome result (λ size. count ≤ MOST_CHUNKS * size) }
 {
-    if count <= meter.chunk() {
-        return None;
-    }
-    let size = chunk_size(execution, meter.chunk(), count, count >= PERMUTES_PAY)?;
-    Some(size_of_few(count, size))
+    few_size(execution, meter, count, count >= PERMUTES_PAY)
 }
 
 /// The size of the chunks in which a kernel reads so many items at scattered places segment by segment, if it goes by chunks. There
@@ -161,24 +180,25 @@ pub fn gather_segments_size(
     meter: &Meter,
     count: usize,
 ) -> Option<usize>
-    ensures { IfSome result (λ size. 0 < size) }
+    ensures size { IfSome result (λ size. 0 < size) }
+    ensures heeded { HeedsChunk meter.now count result }
+    ensures few { IfSome result (λ size. count ≤ MOST_CHUNKS * size) }
 {
-    let size = gather_size(execution, meter, count)?;
-    Some(size_of_few(count, size))
+    few_size(execution, meter, count, count >= GATHERS_PAY)
 }
 
-/// From how many items on threads are started to pack, also into fresh memory: the most of a pack is the test of each flag.
+/// From how many items on threads are started to pack, also into fresh memory: found by `bench chunks` on four processors, where
+/// they were ahead. Fewer were not tried.
 const PACKS_PAY: usize = 1_000_000;
 
-/// The size of the chunks in which a kernel packs so many items, if it goes by chunks.
+/// The size of the chunks in which a kernel packs so many items, if it goes by chunks. There are few, since each looks for the piece
+/// of the operands in which it begins.
 pub fn pack_size(execution: &impl Execution, meter: &Meter, count: usize) -> Option<usize>
-    ensures { IfSome result (λ size. 0 < size) }
+    ensures size { IfSome result (λ size. 0 < size) }
+    ensures heeded { HeedsChunk meter.now count result }
+    ensures few { IfSome result (λ size. count ≤ MOST_CHUNKS * size) }
 {
-    if count <= meter.chunk() {
-        return None;
-    }
-    let size = chunk_size(execution, meter.chunk(), count, count >= PACKS_PAY)?;
-    Some(size_of_few(count, size))
+    few_size(execution, meter, count, count >= PACKS_PAY)
 }
 
 /// The integers that a kernel makes item by item, in chunks of a size.

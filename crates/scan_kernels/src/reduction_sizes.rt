@@ -1,6 +1,7 @@
 //! Whether a reduction goes by chunks, and of what size. The work are the items, however few results they come to.
 
 ghost use Rattle.std.specs.Prelude.{◌<◌, IfSome};
+ghost use Rattle.scan_kernels.specs.Metering.{HeedsChunk};
 
 use crate::chunks::{chunk_size, size_of_few};
 use crate::execution::Execution;
@@ -54,10 +55,8 @@ fn heeded_size(chunk: usize, segments: usize) -> Option<usize>
 /// The size of the chunks of a reduction of so many items, if it goes by chunks.
 #[inline(always)]
 pub(crate) fn items_size(execution: &impl Execution, meter: &Meter, count: usize) -> Option<usize>
-    ensures { IfSome result (λ size. 0 < size) }
+    ensures size { IfSome result (λ size. 0 < size) }
+    ensures heeded { HeedsChunk meter.now count result }
 {
-    if count <= meter.chunk() {
-        return None;
-    }
-    chunk_size(execution, meter.chunk(), count, count >= REDUCTIONS_PAY)
+    chunk_size(execution, meter, count, count >= REDUCTIONS_PAY)
 }
