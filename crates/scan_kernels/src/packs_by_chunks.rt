@@ -82,29 +82,13 @@ pub fn packed_ints_by_chunks(
     ensures items { IfOk result (λ v. v.items ≡ packed flags.now items.now) }
     ensures exact { IfOk result (λ v. IsExact v) }
 {
-    let piece = size_of_few(flags.len(), 1);
-    let count = flags.len().div_ceil(piece);
-    let mut lengths = [0; MOST_CHUNKS];
-    let mut numbers = [0; MOST_CHUNKS];
-    let mut set = [0; MOST_CHUNKS];
-    let lengths = &mut lengths[..count];
-    let numbers = &mut numbers[..count];
-    cut_evenly(flags.len(), piece, lengths);
-    let at_once = size.div_ceil(piece);
-    let total = number_pieces(
-        execution,
-        flags,
-        lengths,
-        at_once,
-        &mut set[..count],
-        numbers,
-    );
+    let pieces = cut_pieces(execution, flags, size);
     let row = IntRow::Packed(Packed {
         items,
         flags,
-        lengths,
-        numbers,
-        total,
+        lengths: &pieces.lengths[..pieces.count],
+        numbers: &pieces.numbers[..pieces.count],
+        total: pieces.total,
     });
     ints_by_chunks(execution, source, row, size)
 }
@@ -122,31 +106,56 @@ pub fn packed_bools_by_chunks(
     ensures items { IfOk result (λ v. v.items ≡ packed flags.now items.now) }
     ensures exact { IfOk result (λ v. IsExact v) }
 {
+    let pieces = cut_pieces(execution, flags, size);
+    let row = BoolRow::Packed(Packed {
+        items,
+        flags,
+        lengths: &pieces.lengths[..pieces.count],
+        numbers: &pieces.numbers[..pieces.count],
+        total: pieces.total,
+    });
+    bools_by_chunks(execution, source, row, size)
+}
+
+/// The pieces that flags are cut into, and how many flags each has set.
+#[derive(Clone, Copy)]
+struct Pieces {
+    lengths: [usize; MOST_CHUNKS],
+    numbers: [usize; MOST_CHUNKS],
+    /// How many pieces there are.
+    count: usize,
+    /// How many flags are set.
+    total: usize,
+}
+
+/// Cuts flags into pieces of which there may be as many as lie on the stack, and counts them in chunks of a size.
+fn cut_pieces(execution: &impl Execution, flags: &[bool], size: usize) -> Pieces
+    requires { 0 < size }
+    ensures few { result.count ≤ MOST_CHUNKS }
+    ensures cut { sum (take result.count result.lengths) ≡ length flags.now }
+    ensures numbers { take result.count result.numbers ≡ each_number (take result.count result.lengths) flags.now }
+    ensures total { result.total ≡ number_set flags.now }
+{
     let piece = size_of_few(flags.len(), 1);
     let count = flags.len().div_ceil(piece);
     let mut lengths = [0; MOST_CHUNKS];
     let mut numbers = [0; MOST_CHUNKS];
     let mut set = [0; MOST_CHUNKS];
-    let lengths = &mut lengths[..count];
-    let numbers = &mut numbers[..count];
-    cut_evenly(flags.len(), piece, lengths);
-    let at_once = size.div_ceil(piece);
+    cut_evenly(flags.len(), piece, &mut lengths[..count]);
     let total = number_pieces(
         execution,
         flags,
-        lengths,
-        at_once,
+        &lengths[..count],
+        size.div_ceil(piece),
         &mut set[..count],
-        numbers,
+        &mut numbers[..count],
     );
-    let row = BoolRow::Packed(Packed {
-        items,
-        flags,
+    Pieces {
         lengths,
         numbers,
+        count,
         total,
-    });
-    bools_by_chunks(execution, source, row, size)
+    }
 }
 
 /// Counts how many flags are set in each piece, so many pieces at once, and all together.
