@@ -1,12 +1,12 @@
 #!/bin/sh
 # refused/calls.sh: has each growth refused in turn that a public call of a library asks for: kernels, memories, texts, steps and their
-# parts, books, batches, passes of the machine, its calls, and new machines. It says what came of it.
+# parts, books, batches, blocks, passes of the machine, its calls, and new machines. It says what came of it.
 # It runs the tests of the files refused.rt of these crates that `rt test` or `./test` built, once for each growth. A test fails where
 # a refused growth is anything but a want of memory that changed nothing, and in batches where it comes to more than one call, but for
 # a history that could not be reserved. The batch and the pass with an empty vector must also be served once with a joined run refused
 # and every call answered. Status 1: something was not so; 2: the tests are not built; 3: nothing was tried, since there is no cc.
 cd "$(dirname "$0")/.." || exit 1
-crates='kernel_tests call_tests batch_tests combiner'
+crates='kernel_tests call_tests batch_tests block_tests combiner'
 for crate in $crates; do
     [ -x "crates/$crate/out/${crate}_tests" ] || { echo "refused: the tests of $crate are not built" >&2; exit 2; }
 done

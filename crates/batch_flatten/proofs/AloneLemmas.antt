@@ -1,32 +1,37 @@
--- A batch of one request: its wave is the first, and the turn of its call is all that is done.
+-- A batch of one request: its wave is the first, and the turn of its job is all that is done.
 use Rattle.std.proofs.Common.{◌≡◌, ℕ, zero, suc, List, [], ◌∷◌, Some, slice_get, refl, sym, subst, arith}
 use Rattle.call_history.specs.declared.entry.Entry.{Entry}
+use Rattle.call_history.specs.declared.request.Job.{Job}
+use Rattle.call_history.specs.declared.request.Job.TheVariants.{One, Many}
 use Rattle.call_history.specs.declared.request.Request.{Request}
 use Rattle.call_history.specs.declared.request.Outcome.{Outcome}
-use Rattle.call_history.specs.declared.request.Outcome.TheVariants.{Refused}
-use Rattle.cvl_text.specs.declared.call.Call.{Call}
+use Rattle.call_history.specs.Blocks.{Whole}
 use Rattle.call_history.specs.Books.{BookState}
-use Rattle.call_history.specs.Fits.{request, IsAskedAt}
-use Rattle.batch_flatten.specs.Batches.{RunsOne, ServesInOrder}
-use Rattle.batch_flatten.specs.Serving.{AreAskedBy, Serving}
+use Rattle.call_history.specs.Fits.{request, returned, IsAskedAt, handed_back}
+use Rattle.batch_flatten.specs.Batches.{RunsJob, ServesInOrder}
+use Rattle.batch_flatten.specs.Serving.{AreAskedBy, RunsBack, Serving}
 use Rattle.batch_flatten.proofs.ServingLemmas.{serving_end, serving_start, serving_turn}
 
 asked-once : (r : Request) → AreAskedBy (r ∷ []) (r.caller ∷ [])
 asked-once r = record { callers_are = refl; each = each }
   where
-    each : (i k : ℕ) (call : Call) → slice_get (r ∷ []) i ≡ Some (request k call) → IsAskedAt (r ∷ []) i k call
-    each zero k call there = record { there = there; first = refl }
-    each (suc i) k call there = absurd cc
+    each : (i k : ℕ) (job : Job) → slice_get (r ∷ []) i ≡ Some (request k job) → IsAskedAt (r ∷ []) i k job
+    each zero k job there = record { there = there; first = refl }
+    each (suc i) k job there = absurd cc
 
-served : (room : ℕ) (line : List Entry) (r : Request) (old new : BookState) (o : Outcome) → old.room ≡ room → old.history ≡ line → RunsOne old new r.caller r.call o
+runs-back : (old new : BookState) (k : ℕ) (job : Job) (o : Outcome) → RunsJob old new k job o → RunsBack old new k (handed_back job) o
+runs-back old new k (One call) o runs = runs
+runs-back old new k (Many calls) o runs = runs
+
+served : (room : ℕ) (line : List Entry) (r : Request) (old new : BookState) (o : Outcome) → Whole line → old.room ≡ room → old.history ≡ line → RunsJob old new r.caller r.job o
     → ServesInOrder room line (r ∷ []) new.history (o ∷ [])
-served room line r old new o rooms lines ran =
-    let start = subst (λ (l : List Entry). Serving room line (r ∷ []) [] l (Refused r.call ∷ [])) (sym lines) (serving_start room line (r ∷ [])) in
-    let turn = serving_turn room line (r ∷ []) (r.caller ∷ []) [] 0 old new (Refused r.call ∷ []) (Refused r.call) o rooms (omega arith) (asked-once r) tt refl ran start in
+served room line r old new o whole rooms lines ran =
+    let start = subst (λ (l : List Entry). Serving room line (r ∷ []) [] l (returned r ∷ [])) (sym lines) (serving_start room line (r ∷ []) whole) in
+    let turn = serving_turn room line (r ∷ []) (r.caller ∷ []) [] 0 old new (returned r ∷ []) (returned r) o rooms (omega arith) (asked-once r) tt refl (runs-back old new r.caller r.job o ran) start in
     serving_end room line (r ∷ []) (0 ∷ []) new.history (o ∷ []) refl refl turn
 
--- the turn of the one call, on a book as it was
-pub alone-served : (room : ℕ) (line : List Entry) (rs : List Request) (os : List Outcome) (r : Request) (old new : BookState) (o : Outcome) → rs ≡ r ∷ [] → os ≡ o ∷ []
-    → old.room ≡ room → old.history ≡ line → RunsOne old new r.caller r.call o → ServesInOrder room line rs new.history os
-alone-served room line rs os r old new o asked said rooms lines ran =
-    subst (λ (z : List Request × (List Outcome)). ServesInOrder room line z.0 new.history z.1) (λ j. (sym asked j, sym said j)) (served room line r old new o rooms lines ran)
+-- the turn of the one job, on a book as it was
+pub alone-served : (room : ℕ) (line : List Entry) (rs : List Request) (os : List Outcome) (r : Request) (old new : BookState) (o : Outcome) → rs ≡ r ∷ [] → os ≡ o ∷ [] → Whole line
+    → old.room ≡ room → old.history ≡ line → RunsJob old new r.caller r.job o → ServesInOrder room line rs new.history os
+alone-served room line rs os r old new o asked said whole rooms lines ran =
+    subst (λ (z : List Request × (List Outcome)). ServesInOrder room line z.0 new.history z.1) (λ j. (sym asked j, sym said j)) (served room line r old new o whole rooms lines ran)

@@ -1,6 +1,6 @@
 -- Different words, counted one after the other: one more word counts where it is new (`kernels-new`), and takes nothing away
 -- (`kernels-le`). Two words are one, or not (`word_cases`).
-use Rattle.std.proofs.Common.{◌≡◌, ◌≢◌, ◌⊎◌, inl, inr, ℕ, ◌+◌, ◌<◌, ◌≤◌, Bool, true, false, cond, ◌||◌, List, [], ◌∷◌, ◌++◌, filter, length, take, refl, sym, ap, ◌∙◌, subst, add-one, append-nil, arith, sum_by, zero-add}
+use Rattle.std.proofs.Common.{◌≡◌, ◌≢◌, ◌⊎◌, inl, inr, ℕ, ◌+◌, ◌<◌, ◌≤◌, Bool, true, false, cond, ◌||◌, List, [], ◌∷◌, ◌++◌, filter, length, take, refl, sym, ap, ◌∙◌, subst, add-one, append-nil, arith, sum, sum_by, zero-add}
 use Rattle.std.specs.List.{AllByRecursion, range_with_len}
 use Rattle.std.proofs.lemmas.List.{take_more}
 use Rattle.std.proofs.lemmas.List.Elements.{filter-append}
@@ -111,11 +111,12 @@ kernels-new words position lt kernel fresh =
     ∙ different-new (filter runs_kernel (take position words)) (word_at words position) (new-filter (take position words) (word_at words position) fresh)
 
 -- one more wave
-pub kernels-next : (ws : List ℕ) (words : List Word) (waves : ℕ) → kernels_below ws words (waves + 1) ≡ kernels_below ws words waves + different_kernels (in_wave waves ws words)
-kernels-next ws words waves =
-    let count : ℕ → ℕ = λ (wave : ℕ). different_kernels (in_wave wave ws words) in
+pub kernels-next : (ws : List ℕ) (words : List Word) (sizes : List ℕ) (waves : ℕ)
+    → kernels_below ws words sizes (waves + 1) ≡ kernels_below ws words sizes waves + (different_kernels (in_wave waves ws words) + sum (in_wave waves ws sizes))
+kernels-next ws words sizes waves =
+    let count : ℕ → ℕ = λ (wave : ℕ). different_kernels (in_wave wave ws words) + sum (in_wave wave ws sizes) in
     let from_zero : 0 + waves ≡ waves = omega arith in
     ap (λ n. sum_by count (range_with_len 0 n)) (add-one waves)
     ∙ ap (sum_by count) (range-push 0 waves)
     ∙ sum_by-append count (range_with_len 0 waves) ((0 + waves) ∷ [])
-    ∙ ap (λ (n : ℕ). kernels_below ws words waves + n) (zero-add (count (0 + waves)) ∙ ap count from_zero)
+    ∙ ap (λ (n : ℕ). kernels_below ws words sizes waves + n) (zero-add (count (0 + waves)) ∙ ap count from_zero)

@@ -14,7 +14,7 @@ use Rattle.cvl_calls.specs.declared.product.Product.{Product}
 use Rattle.cvl_calls.specs.Outcomes.{Effect, effect_of}
 use Rattle.cvl_calls.specs.Runs.{runs_kernel}
 use Rattle.call_history.specs.declared.request.Outcome.{Outcome}
-use Rattle.call_history.specs.declared.request.Outcome.TheVariants.{Answered, Refused}
+use Rattle.call_history.specs.declared.request.Outcome.TheVariants.{Answered, Refused, AnsweredBlock, RefusedBlock}
 use Rattle.call_history.specs.declared.work.Work.{Work}
 use Rattle.call_history.specs.Works.{IsWork}
 use Rattle.batch_flatten.specs.declared.turn.Turn.{Turn}
@@ -57,6 +57,8 @@ group-none m outcomes places words word positions judged is = subst (IsGroup m o
 pub of-word : (words : List Word) (outcomes : List Outcome) (places : List ℕ) (b : ℕ) (word : Word) (o : Outcome) → AreWords words outcomes places → b < length places → slice_get outcomes (slice_index places b) ≡ Some o → word_at words b ≡ word → IsOfWord word o
 of-word words outcomes places b word (Refused c) are lt there is = sym (are b c lt there) ∙ is
 of-word words outcomes places b word (Answered place reply) are lt there is = tt
+of-word words outcomes places b word (AnsweredBlock place replies) are lt there is = tt
+of-word words outcomes places b word (RefusedBlock calls) are lt there is = tt
 
 -- an open position of the word that is noted closes, and no other
 pub noted-closes : (words : List Word) (word : Word) (old new : List Turn) (p : ℕ) (t : Turn) → new ≡ set old p t → (slice_get old p ≡ Some Open) × (word_at words p ≡ word) → ClosesOnly words word old new

@@ -2,6 +2,8 @@ pub mod Turning
 pub mod WaveLemmas
 pub mod ApartLemmas
 pub mod PlanLemmas
+pub mod TargetLemmas
+pub mod BlockLemmas
 pub mod PlaceLemmas
 pub mod RollLemmas
 pub mod ServingLemmas
@@ -13,3 +15,4 @@ pub mod DifferentLemmas
 pub mod TurnLemmas
 pub mod CallerLemmas
 pub mod AloneLemmas
+pub mod SizeLemmas

@@ -1,10 +1,12 @@
 -- A batch under way goes on by one turn: `serving_start`, `serving_turn` and `serving_end`. What was back stays back but at the
 -- place of the turn (`back-turn`), and what takes no memory is answered there (`sure-turn`).
-use Rattle.std.proofs.Common.{◌≡◌, ℕ, zero, suc, ◌<◌, ◌+◌, All, List, [], ◌∷◌, ◌++◌, length, map, filter, take, Option, Some, refl, sym, ap, ◌∙◌, subst, arith, append-nil, append_assoc, get_or, slice_get, slice_index, set}
-use Rattle.std.specs.List.{AllPairs, zip}
+use Rattle.std.proofs.Common.{◌≡◌, ◌⊎◌, ⊎_elim, inl, inr, ℕ, zero, suc, ◌<◌, ◌≤◌, ◌+◌, All, true, false, cond, List, [], ◌∷◌, ◌++◌, length, map, filter, take, Option, Some, refl, sym, ap, ◌∙◌, subst, arith, append-nil, append_assoc, get_or, slice_get, slice_index, set}
+use Rattle.std.specs.List.{AllPairs, flat_map, zip}
 use Rattle.std.specs.Option.{option_map}
 use Rattle.std.proofs.lemmas.List.{length-map, length-set, map-append, take_more}
+use Rattle.std.proofs.lemmas.List.Concat.{flat_map-append}
 use Rattle.std.proofs.lemmas.List.Elements.{filter-append}
+use Rattle.std.proofs.lemmas.List.Sums.{sum_by-cons}
 use Rattle.std.proofs.lemmas.Option.{slice_get-get_or}
 use mathlib.Core.Logic.{dite}
 use native.Mathlib.Decide.{ℕ_discrete}
@@ -12,18 +14,25 @@ use Rattle.cvl_text.specs.declared.call.Call.{Call}
 use Rattle.cvl_text.specs.Tasks.{task_of}
 use Rattle.cvl_calls.specs.Runs.{TakesNoMemory}
 use Rattle.call_history.specs.declared.entry.Entry.{Entry}
+use Rattle.call_history.specs.declared.request.Job.{Job}
+use Rattle.call_history.specs.declared.request.Job.TheVariants.{One, Many}
 use Rattle.call_history.specs.declared.request.Request.{Request}
 use Rattle.call_history.specs.declared.request.Outcome.{Outcome}
-use Rattle.call_history.specs.declared.request.Outcome.TheVariants.{Answered, Refused}
-use Rattle.call_history.specs.Books.{BookState}
-use Rattle.call_history.specs.Callers.{next_entry}
-use Rattle.call_history.specs.Fits.{Fits, IsAskedAt, request, returned}
-use Rattle.call_history.specs.History.{reply_after}
+use Rattle.call_history.specs.declared.request.Outcome.TheVariants.{Answered, Refused, AnsweredBlock, RefusedBlock}
+use Rattle.vector_memory.specs.States.{empty}
+use Rattle.call_history.specs.Blocks.{Whole, after, block_entries}
+use Rattle.call_history.specs.Books.{BookState, memory_of}
+use Rattle.call_history.specs.Callers.{next_before}
+use Rattle.call_history.specs.Fits.{Fits, IsAskedAt, IsOfJob, StandsAt, calls_of, fate_of, handed_back, request, returned}
+use Rattle.call_history.specs.History.{replay, replies_from}
+use Rattle.call_history.proofs.Blocks.{Whole-grown, calls-block, replay_from-after}
 use Rattle.call_history.proofs.InPlace.{fits_answered_at, fits_returned}
+use Rattle.call_history.proofs.Replays.{replay_from-append}
 use Rattle.batch_flatten.specs.Waves.{asked, count_of, by_waves, waves_of}
 use Rattle.batch_flatten.specs.Places.{IsOutside, at_places, places_of_first}
-use Rattle.batch_flatten.specs.Batches.{HasAnswer, RunsOne, ServesInOrder, answered, is_answered, request_of}
-use Rattle.batch_flatten.specs.Serving.{AnswersIfSure, AnswersSure, AreAskedBy, RunsBack, Serving, WereBack, caller_of}
+use Rattle.batch_flatten.specs.Batches.{HasAnswer, RunsJob, ServesInOrder, StaysWith, answered, call_by, calls_asked, calls_back, is_answered}
+use Rattle.batch_flatten.specs.Counts.{count_back}
+use Rattle.batch_flatten.specs.Serving.{AnswersIfSure, AnswersSure, AreAskedBy, RunsBack, Serving, TurnsMemory, WereBack, caller_of}
 use Rattle.batch_flatten.proofs.PlaceLemmas.{at_places-in_order, at_places-push, place_in, rising-outside, set_itself, slice_get-set_else, slice_get-set_here}
 
 outside-parts : (done more : List ℕ) (place : ℕ) → IsOutside (done ++ more) place → IsOutside done place × IsOutside more place
@@ -49,18 +58,36 @@ slice_get-zip (x ∷ rs) (y ∷ os) (suc i) r o there has = slice_get-zip rs os 
 answered-append : (ps qs : List (Request × Outcome)) → answered (ps ++ qs) ≡ answered ps ++ answered qs
 answered-append ps qs = ap (map (λ p. p.0)) (filter-append (λ p. is_answered p.1) ps qs) ∙ map-append (λ p. p.0) (filter (λ p. is_answered p.1) ps) (filter (λ p. is_answered p.1) qs)
 
-fits_run : (room : ℕ) (line : List Entry) (rs : List Request) (os : List Outcome) (old new : BookState) (i k : ℕ) (call : Call) (o : Outcome) → old.room ≡ room → IsAskedAt rs i k call → slice_get os i ≡ Some (Refused call)
-    → RunsOne old new k call o → Fits room line rs old.history os → Fits room line rs new.history (set os i o)
-fits_run room line rs os old new i k call (Answered place reply) same at back runs f =
-    subst (λ (z : List Entry × ℕ). Fits room line rs z.0 (set os i (Answered z.1 reply))) (λ j. (sym runs.1 j, sym runs.2 j))
-    (fits_answered_at room line old.history rs os i k _ call reply at back (runs.3 ∙ ap (λ (r : ℕ). reply_after r old.history call) same) f)
-fits_run room line rs os old new i k call (Refused back) same at was runs f =
-    subst (λ (z : List Entry × (List Outcome)). Fits room line rs z.0 z.1) (λ j. (sym runs.1 j, sym (ap (λ (c : Call). set os i (Refused c)) runs.2 ∙ set_itself os i (Refused call) was) j)) f
+-- the job ran behind the history
+abbrev JobRan : BookState → BookState → ℕ → Job → Outcome → Type 0
+JobRan old new k job o =
+    IsOfJob job o × (is_answered o ≡ true) × (new.room ≡ old.room) × (new.history ≡ old.history ++ block_entries old.history k (calls_of job))
+    × (fate_of o ≡ StandsAt (length old.history) (replies_from (memory_of old) (block_entries old.history k (calls_of job))))
 
--- the outcome at a place that had no turn is the call back
-waits : (room : ℕ) (line : List Entry) (rs : List Request) (done : List ℕ) (place : ℕ) (mid : List Entry) (os : List Outcome) (k : ℕ) (call : Call) → Serving room line rs done mid os → IsOutside done place
-    → IsAskedAt rs place k call → slice_get os place ≡ Some (Refused call)
-waits room line rs done place mid os k call s out at = s.waiting place out ∙ ap (option_map returned) at.there
+-- a job ran, or it came back
+job-cases : (old new : BookState) (k : ℕ) (job : Job) (o : Outcome) → RunsJob old new k job o → JobRan old new k job o ⊎ StaysWith old new (handed_back job) o
+job-cases old new k (One call) (Answered place reply) runs = inl (tt, refl, runs.0, runs.1, λ j. StandsAt (runs.2 j) (runs.3 j))
+job-cases old new k (One call) (Refused back) runs = inr runs
+job-cases old new k (One call) (AnsweredBlock place replies) runs = inr runs
+job-cases old new k (One call) (RefusedBlock back) runs = inr runs
+job-cases old new k (Many calls) (Answered place reply) runs = inr runs
+job-cases old new k (Many calls) (Refused back) runs = inr runs
+job-cases old new k (Many calls) (AnsweredBlock place replies) runs = inl (tt, refl, runs.0, runs.1, λ j. StandsAt (runs.2 j) (runs.3 j))
+job-cases old new k (Many calls) (RefusedBlock back) runs = inr runs
+
+not-answered : (job : Job) → is_answered (handed_back job) ≡ false
+not-answered (One call) = refl
+not-answered (Many calls) = refl
+
+-- the calls of a block, with their caller
+block-calls : (history : List Entry) (k : ℕ) (calls : List Call) → map call_by (block_entries history k calls) ≡ map (λ c. (k, c)) calls
+block-calls history k [] = refl
+block-calls history k (c ∷ cs) = ap (λ (l : List (ℕ × Call)). (k, c) ∷ l) (block-calls (history ++ next_before history k c (length cs) ∷ []) k cs)
+
+-- the outcome at a place that had no turn is the job back
+waits : (room : ℕ) (line : List Entry) (rs : List Request) (done : List ℕ) (place : ℕ) (mid : List Entry) (os : List Outcome) (k : ℕ) (job : Job) → Serving room line rs done mid os → IsOutside done place
+    → IsAskedAt rs place k job → slice_get os place ≡ Some (handed_back job)
+waits room line rs done place mid os k job s out at = s.waiting place out ∙ ap (option_map returned) at.there
 
 still_wait : (rs : List Request) (done : List ℕ) (place : ℕ) (os : List Outcome) (o : Outcome) → ((p : ℕ) → IsOutside done p → slice_get os p ≡ option_map returned (slice_get rs p))
     → (p : ℕ) → IsOutside (done ++ place ∷ []) p → slice_get (set os place o) p ≡ option_map returned (slice_get rs p)
@@ -68,38 +95,61 @@ still_wait rs done place os o waiting p out =
     let parts = outside-parts done (place ∷ []) p out in
     slice_get-set_else os place p o (λ e. parts.1.0 (sym e)) ∙ waiting p parts.0
 
-turn-done : (rs : List Request) (done : List ℕ) (place : ℕ) (os : List Outcome) (r : Request) (was o : Outcome) → IsOutside done place → slice_get rs place ≡ Some r → slice_get os place ≡ Some was
-    → answered (at_places (zip rs (set os place o)) (done ++ place ∷ [])) ≡ answered (at_places (zip rs os) done) ++ answered ((r, o) ∷ [])
-turn-done rs done place os r was o out asked has =
-    ap (λ ps. answered (at_places ps (done ++ place ∷ []))) (zip-set rs os place r o asked)
-    ∙ ap answered (at_places-push (zip rs os) place (r, was) (r, o) done out (slice_get-zip rs os place r was asked has))
-    ∙ answered-append (at_places (zip rs os) done) ((r, o) ∷ [])
+-- the calls that were answered
+abbrev answered_calls : List (Request × Outcome) → List (ℕ × Call)
+answered_calls ps = flat_map calls_asked (answered ps)
 
-serving_run : (room : ℕ) (line : List Entry) (rs : List Request) (done : List ℕ) (place : ℕ) (old new : BookState) (os : List Outcome) (k : ℕ) (call : Call) (o : Outcome) → old.room ≡ room
-    → Serving room line rs done old.history os → IsOutside done place → IsAskedAt rs place k call → RunsOne old new k call o → Serving room line rs (done ++ place ∷ []) new.history (set os place o)
-serving_run room line rs done place old new os k call (Answered at reply) same s out asks runs =
-    let back = waits room line rs done place old.history os k call s out asks in
-    let e = next_entry old.history k call in
-    record {
-      fits = fits_run room line rs os old new place k call (Answered at reply) same asks back runs s.fits;
-      paired = length-set os place (Answered at reply) ∙ s.paired;
-      added = s.added ++ e ∷ [];
-      grown = runs.1 ∙ ap (λ l. l ++ e ∷ []) s.grown ∙ append_assoc line s.added (e ∷ []);
-      ordered = map-append request_of s.added (e ∷ []) ∙ ap (λ l. l ++ request k call ∷ []) s.ordered
-          ∙ sym (turn-done rs done place os (request k call) (Refused call) (Answered at reply) out asks.there back);
-      waiting = still_wait rs done place os (Answered at reply) s.waiting;
-    }
-serving_run room line rs done place old new os k call (Refused came) same s out asks runs =
-    let back = waits room line rs done place old.history os k call s out asks in
-    record {
-      fits = fits_run room line rs os old new place k call (Refused came) same asks back runs s.fits;
-      paired = length-set os place (Refused came) ∙ s.paired;
-      added = s.added;
-      grown = runs.1 ∙ s.grown;
-      ordered = s.ordered ∙ sym (append-nil (answered (at_places (zip rs os) done)))
-          ∙ sym (turn-done rs done place os (request k call) (Refused call) (Refused came) out asks.there back);
-      waiting = still_wait rs done place os (Refused came) s.waiting;
-    }
+turn-done : (rs : List Request) (done : List ℕ) (place : ℕ) (os : List Outcome) (r : Request) (was o : Outcome) → IsOutside done place → slice_get rs place ≡ Some r → slice_get os place ≡ Some was
+    → answered_calls (at_places (zip rs (set os place o)) (done ++ place ∷ [])) ≡ answered_calls (at_places (zip rs os) done) ++ answered_calls ((r, o) ∷ [])
+turn-done rs done place os r was o out asked has =
+    ap (λ ps. answered_calls (at_places ps (done ++ place ∷ []))) (zip-set rs os place r o asked)
+    ∙ ap answered_calls (at_places-push (zip rs os) place (r, was) (r, o) done out (slice_get-zip rs os place r was asked has))
+    ∙ ap (flat_map calls_asked) (answered-append (at_places (zip rs os) done) ((r, o) ∷ []))
+    ∙ flat_map-append calls_asked (answered (at_places (zip rs os) done)) (answered ((r, o) ∷ []))
+
+one-answered : (r : Request) (o : Outcome) → is_answered o ≡ true → answered_calls ((r, o) ∷ []) ≡ calls_asked r
+one-answered r o e = ap (λ b. flat_map calls_asked (map (λ (p : Request × Outcome). p.0) (cond b ((r, o) ∷ []) []))) e ∙ append-nil (calls_asked r)
+
+none-answered : (r : Request) (o : Outcome) → is_answered o ≡ false → answered_calls ((r, o) ∷ []) ≡ []
+none-answered r o e = ap (λ b. flat_map calls_asked (map (λ (p : Request × Outcome). p.0) (cond b ((r, o) ∷ []) []))) e
+
+module _ (room : ℕ) (line : List Entry) (rs : List Request) (done : List ℕ) (place : ℕ) (old new : BookState) (os : List Outcome) (k : ℕ) (job : Job) (o : Outcome) (same : old.room ≡ room) (s : Serving room line rs done old.history os) (out : IsOutside done place) (asks : IsAskedAt rs place k job) where
+  abbrev block : List Entry
+  block = block_entries old.history k (calls_of job)
+
+  back : slice_get os place ≡ Some (handed_back job)
+  back = waits room line rs done place old.history os k job s out asks
+
+  serving_ran : JobRan old new k job o → Serving room line rs (done ++ place ∷ []) new.history (set os place o)
+  serving_ran ran = record {
+    fits = subst (λ (l : List Entry). Fits room line rs l (set os place o)) (sym ran.3)
+        (fits_answered_at room line old.history rs os place k job o asks back ran.0 (ran.4 ∙ ap (λ (r : ℕ). StandsAt (length old.history) (replies_from (replay r old.history) block)) same) s.whole s.fits);
+    paired = length-set os place o ∙ s.paired;
+    added = s.added ++ block;
+    grown = ran.3 ∙ ap (λ l. l ++ block) s.grown ∙ append_assoc line s.added block;
+    ordered = map-append call_by s.added block ∙ ap (λ l. l ++ map call_by block) s.ordered
+        ∙ ap (λ l. answered_calls (at_places (zip rs os) done) ++ l) (block-calls old.history k (calls_of job) ∙ sym (one-answered (request k job) o ran.1))
+        ∙ sym (turn-done rs done place os (request k job) (handed_back job) o out asks.there back);
+    whole = subst Whole (sym ran.3) (Whole-grown old.history k (calls_of job) s.whole);
+    waiting = still_wait rs done place os o s.waiting;
+  }
+
+  serving_stays : StaysWith old new (handed_back job) o → Serving room line rs (done ++ place ∷ []) new.history (set os place o)
+  serving_stays stays = record {
+    fits = subst (λ (z : List Entry × (List Outcome)). Fits room line rs z.0 z.1)
+        (λ j. (sym stays.1 j, sym (ap (set os place) stays.2 ∙ set_itself os place (handed_back job) back) j)) s.fits;
+    paired = length-set os place o ∙ s.paired;
+    added = s.added;
+    grown = stays.1 ∙ s.grown;
+    ordered = s.ordered ∙ sym (append-nil (answered_calls (at_places (zip rs os) done)))
+        ∙ ap (λ l. answered_calls (at_places (zip rs os) done) ++ l) (sym (none-answered (request k job) o (ap is_answered stays.2 ∙ not-answered job)))
+        ∙ sym (turn-done rs done place os (request k job) (handed_back job) o out asks.there back);
+    whole = subst Whole (sym stays.1) s.whole;
+    waiting = still_wait rs done place os o s.waiting;
+  }
+
+  serving_run : RunsJob old new k job o → Serving room line rs (done ++ place ∷ []) new.history (set os place o)
+  serving_run runs = ⊎_elim serving_ran serving_stays (job-cases old new k job o runs)
 
 slice_get-take : {X : Type 0} (xs : List X) (n i : ℕ) → i < n → slice_get (take n xs) i ≡ slice_get xs i
 slice_get-take xs zero i lt = absurd (omega arith)
@@ -130,10 +180,14 @@ pub stands-at : (os : List Outcome) (ps : List ℕ) (b place : ℕ) (o : Outcome
 stands-at os ps b place o within lt is read =
     ap (slice_get os) (sym is) ∙ stands-here os place (length os) o (let low : slice_index ps b < length os = within b 0 lt in omega arith) refl read
 
-some_of : (a b : Outcome) → ◌≡◌ {A = Option Outcome} (Some a) (Some b) → a ≡ b
+pub some_of : (a b : Outcome) → ◌≡◌ {A = Option Outcome} (Some a) (Some b) → a ≡ b
 some_of a b e = cc
 
--- the turn of the call at a place
+back-runs : (old new : BookState) (k : ℕ) (job : Job) (o : Outcome) → RunsBack old new k (handed_back job) o → RunsJob old new k job o
+back-runs old new k (One call) o runs = runs
+back-runs old new k (Many calls) o runs = runs
+
+-- the turn of the job at a place
 pub serving_turn : (room : ℕ) (line : List Entry) (rs : List Request) (callers done : List ℕ) (place : ℕ) (old new : BookState) (os : List Outcome) (was o : Outcome) → old.room ≡ room → place < length os
     → AreAskedBy rs callers → IsOutside done place → slice_get os place ≡ Some was → RunsBack old new (slice_index callers place) was o
     → Serving room line rs done old.history os → Serving room line rs (done ++ place ∷ []) new.history (set os place o)
@@ -142,20 +196,21 @@ serving_turn room line rs callers done place old new os was o same within by out
     let lt : place < length rs = omega arith in
     let found = place_in rs place lt in
     let r = found.0 in
-    let asks : IsAskedAt rs place r.caller r.call = by.each place r.caller r.call found.1 in
-    let back = waits room line rs done place old.history os r.caller r.call s out asks in
-    let is : was ≡ Refused r.call = some_of was (Refused r.call) (sym has ∙ back) in
-    let ran_back : RunsBack old new (slice_index callers place) (Refused r.call) o = subst (λ (z : Outcome). RunsBack old new (slice_index callers place) z o) is ran in
-    let own : RunsOne old new r.caller r.call o = subst (λ (k : ℕ). RunsOne old new k r.call o) (caller_here rs callers place r by lt found.1) ran_back in
-    serving_run room line rs done place old new os r.caller r.call o same s out asks own
+    let asks : IsAskedAt rs place r.caller r.job = by.each place r.caller r.job found.1 in
+    let back = waits room line rs done place old.history os r.caller r.job s out asks in
+    let is : was ≡ handed_back r.job = some_of was (handed_back r.job) (sym has ∙ back) in
+    let ran_back : RunsBack old new (slice_index callers place) (handed_back r.job) o = subst (λ (z : Outcome). RunsBack old new (slice_index callers place) z o) is ran in
+    let own : RunsJob old new r.caller r.job o = subst (λ (k : ℕ). RunsJob old new k r.job o) (caller_here rs callers place r by lt found.1) (back-runs old new (slice_index callers place) r.job o ran_back) in
+    serving_run room line rs done place old new os r.caller r.job o same s out asks own
 
-pub serving_start : (room : ℕ) (line : List Entry) (rs : List Request) → Serving room line rs [] line (map returned rs)
-serving_start room line rs = record {
+pub serving_start : (room : ℕ) (line : List Entry) (rs : List Request) → Whole line → Serving room line rs [] line (map returned rs)
+serving_start room line rs whole = record {
   fits = fits_returned room line rs;
   paired = length-map rs returned;
   added = [];
   grown = sym (append-nil line);
   ordered = refl;
+  whole = whole;
   waiting = λ place out. at_place rs place;
 }
   where
@@ -164,24 +219,84 @@ serving_start room line rs = record {
     at_place (q ∷ qs) zero = refl
     at_place (q ∷ qs) (suc j) = at_place qs j
 
--- what runs back was back
-run-back : (old new : BookState) (k : ℕ) (was o : Outcome) (c : Call) → RunsBack old new k was o → o ≡ Refused c → was ≡ Refused c
-run-back old new k (Refused b) (Refused a) c runs is = let same : a ≡ c = cc in ap (λ (z : Call). Refused z) (sym runs.2 ∙ same)
-run-back old new k (Refused b) (Answered place reply) c runs is = absurd cc
-run-back old new k (Answered place reply) o c runs is = let other : Answered place reply ≡ Refused c = sym runs.2 ∙ is in absurd cc
+-- what is back behind a turn was back
+run-back : (old new : BookState) (k : ℕ) (was o : Outcome) → RunsBack old new k was o → is_answered o ≡ false → was ≡ o
+run-back old new k (Answered place reply) o runs lacks = sym runs.2
+run-back old new k (AnsweredBlock place replies) o runs lacks = sym runs.2
+run-back old new k (Refused c) (Answered place reply) runs lacks = absurd cc
+run-back old new k (Refused c) (Refused back) runs lacks = sym runs.2
+run-back old new k (Refused c) (AnsweredBlock place replies) runs lacks = sym runs.2
+run-back old new k (Refused c) (RefusedBlock back) runs lacks = sym runs.2
+run-back old new k (RefusedBlock calls) (Answered place reply) runs lacks = sym runs.2
+run-back old new k (RefusedBlock calls) (Refused back) runs lacks = sym runs.2
+run-back old new k (RefusedBlock calls) (AnsweredBlock place replies) runs lacks = absurd cc
+run-back old new k (RefusedBlock calls) (RefusedBlock back) runs lacks = sym runs.2
 
 -- what is back behind the turn was back before
 pub back-turn : (old new : BookState) (k : ℕ) (os : List Outcome) (place : ℕ) (was o : Outcome) → slice_get os place ≡ Some was → RunsBack old new k was o → WereBack os (set os place o)
-back-turn old new k os place was o there runs j c at = dite (ℕ_discrete j place)
-    (λ same. let here : o ≡ Refused c = some_of o (Refused c) (sym (slice_get-set_here os place was o there) ∙ ap (slice_get (set os place o)) (sym same) ∙ at) in
-    ap (slice_get os) same ∙ there ∙ ap (λ (z : Outcome). Some z) (run-back old new k was o c runs here))
+back-turn old new k os place was o there runs j u at lacks = dite (ℕ_discrete j place)
+    (λ same. let here : o ≡ u = some_of o u (sym (slice_get-set_here os place was o there) ∙ ap (slice_get (set os place o)) (sym same) ∙ at) in
+    ap (slice_get os) same ∙ there ∙ ap (λ (z : Outcome). Some z) (run-back old new k was o runs (ap is_answered here ∙ lacks) ∙ here))
     (λ other. sym (slice_get-set_else os place j o other) ∙ at)
 
+same-memory : (old new : BookState) → new.room ≡ old.room → new.history ≡ old.history → memory_of new ≡ memory_of old
+same-memory old new rooms histories = λ j. replay (rooms j) (histories j)
+
+grown-memory : (old new : BookState) (k : ℕ) (calls : List Call) → new.room ≡ old.room → new.history ≡ old.history ++ block_entries old.history k calls → memory_of new ≡ after (memory_of old) calls
+grown-memory old new k calls rooms grows =
+    (λ j. replay (rooms j) (grows j))
+    ∙ replay_from-append (empty old.room) old.history (block_entries old.history k calls)
+    ∙ replay_from-after (memory_of old) (block_entries old.history k calls)
+    ∙ ap (after (memory_of old)) (calls-block old.history k calls)
+
+job-memory : (old new : BookState) (k : ℕ) (job : Job) (o : Outcome) → RunsJob old new k job o → (memory_of new ≡ memory_of old) ⊎ (memory_of new ≡ after (memory_of old) (calls_of job))
+job-memory old new k job o runs = ⊎_elim
+    (λ ran. inr (grown-memory old new k (calls_of job) ran.2 ran.3))
+    (λ stays. inl (same-memory old new stays.0 stays.1))
+    (job-cases old new k job o runs)
+
+-- the memory behind a turn
+pub turn-memory : (old new : BookState) (k : ℕ) (was o : Outcome) → RunsBack old new k was o → TurnsMemory (memory_of old) (memory_of new) was
+turn-memory old new k (Answered place reply) o runs = inl (same-memory old new runs.0 runs.1)
+turn-memory old new k (AnsweredBlock place replies) o runs = inl (same-memory old new runs.0 runs.1)
+turn-memory old new k (Refused c) o runs = job-memory old new k (One c) o runs
+turn-memory old new k (RefusedBlock calls) o runs = job-memory old new k (Many calls) o runs
+
+-- how many calls are back where one outcome is another
+pub back-set : (os : List Outcome) (place : ℕ) (was o : Outcome) → slice_get os place ≡ Some was → count_back (set os place o) + length (calls_back was) ≡ count_back os + length (calls_back o)
+back-set [] place was o there = absurd cc
+back-set (x ∷ os) zero was o there =
+    let same : x ≡ was = cc in
+    let here = ap (λ (z : Outcome). length (calls_back z)) same in
+    let now = sum_by-cons (λ (z : Outcome). length (calls_back z)) o os in
+    let before = sum_by-cons (λ (z : Outcome). length (calls_back z)) x os in
+    omega arith
+back-set (x ∷ os) (suc place) was o there =
+    let rest = back-set os place was o there in
+    let now = sum_by-cons (λ (z : Outcome). length (calls_back z)) x (set os place o) in
+    let before = sum_by-cons (λ (z : Outcome). length (calls_back z)) x os in
+    omega arith
+
+-- those at one place are among them
+pub back-at : (os : List Outcome) (place : ℕ) (was : Outcome) → slice_get os place ≡ Some was → length (calls_back was) ≤ count_back os
+back-at [] place was there = absurd cc
+back-at (x ∷ os) zero was there =
+    let same : x ≡ was = cc in
+    let here = ap (λ (z : Outcome). length (calls_back z)) same in
+    let before = sum_by-cons (λ (z : Outcome). length (calls_back z)) x os in
+    omega arith
+back-at (x ∷ os) (suc place) was there =
+    let rest = back-at os place was there in
+    let before = sum_by-cons (λ (z : Outcome). length (calls_back z)) x os in
+    omega arith
+
 pub back-again : (first mid last : List Outcome) → WereBack first mid → WereBack mid last → WereBack first last
-back-again first mid last one two i c at = one i c (two i c at)
+back-again first mid last one two i o at lacks = one i o (two i o at lacks) lacks
 
 sure-here : (was o : Outcome) (c : Call) → (o ≡ Refused c → was ≡ Refused c) → AnswersIfSure was o → o ≡ Refused c → TakesNoMemory (task_of c).word → ⊥
 sure-here (Answered place reply) o c back sure is none = let other : Answered place reply ≡ Refused c = back is in absurd cc
+sure-here (AnsweredBlock place replies) o c back sure is none = let other : AnsweredBlock place replies ≡ Refused c = back is in absurd cc
+sure-here (RefusedBlock calls) o c back sure is none = let other : RefusedBlock calls ≡ Refused c = back is in absurd cc
 sure-here (Refused b) o c back sure is none =
     let same : b ≡ c = inside b c (back is) in
     let answered : HasAnswer o = sure (subst (λ (z : Call). TakesNoMemory (task_of z).word) (sym same) none) in
@@ -198,7 +313,7 @@ sure-turn old new k os done place was o there runs sure all = record { waits = w
     waits_at : (j : ℕ) (c : Call) → slice_get (set os place o) j ≡ Some (Refused c) → TakesNoMemory (task_of c).word → IsOutside (done ++ place ∷ []) j
     waits_at j c at none = dite (ℕ_discrete j place)
         (λ same. let here : o ≡ Refused c = some_of o (Refused c) (sym (slice_get-set_here os place was o there) ∙ ap (slice_get (set os place o)) (sym same) ∙ at) in
-        absurd (sure-here was o c (run-back old new k was o c runs) sure here none))
+        absurd (sure-here was o c (λ is. run-back old new k was o runs (ap is_answered is) ∙ is) sure here none))
         (λ other. outside-append done (place ∷ []) j (all.waits j c (sym (slice_get-set_else os place j o other) ∙ at) none) ((λ e. other (sym e)), tt))
 
 -- the places of a wave that had their turns, and one more
@@ -230,5 +345,6 @@ serving_end room line rs ws mid os are long s = record {
   paired = s.paired;
   added = s.added;
   grown = s.grown;
-  ordered = s.ordered ∙ ap answered (at_places-in_order (zip rs os) ws long) ∙ ap (λ (vs : List ℕ). answered (by_waves vs (zip rs os))) are;
+  ordered = s.ordered ∙ ap answered_calls (at_places-in_order (zip rs os) ws long) ∙ ap (λ (vs : List ℕ). answered_calls (by_waves vs (zip rs os))) are;
+  whole = s.whole;
 }

@@ -1,6 +1,6 @@
 -- A call's work depends on what its names stand for alone, and a call changes its target alone. So the calls of a wave make of the
 -- memory at the wave's beginning what each makes at its own turn: `works_stay`, `same_memory`, `same_answers`.
-use Rattle.std.proofs.Common.{◌≡◌, ℕ, Bool, true, false, cond, ◌||◌, List, [], ◌∷◌, Option, Some, None, Result, Ok, Err, refl, sym, ap, ◌∙◌}
+use Rattle.std.proofs.Common.{◌≡◌, ℕ, Bool, true, false, cond, ◌||◌, List, [], ◌∷◌, map, Option, Some, None, Result, Ok, Err, refl, sym, ap, ◌∙◌}
 use Rattle.std.specs.List.{AllByRecursion, filter_map}
 use Rattle.std.specs.Map.{lookup, remove_entry}
 use Rattle.vector_memory.specs.declared.name.Name.{Name}
@@ -12,11 +12,13 @@ use Rattle.vector_memory.specs.States.{State, value_at, put, refusal}
 use Rattle.vector_memory.proofs.Putting.{apart, lookup-inserted}
 use Rattle.cvl_text.specs.declared.fault.Fault.{Fault}
 use Rattle.cvl_text.specs.Answers.{Answer}
-use Rattle.cvl_text.specs.Tasks.{Task, Argument, Vector, Number, Truth, Numbers, Truths, name_in, target}
+use Rattle.cvl_text.specs.declared.call.Call.{Call}
+use Rattle.cvl_text.specs.Tasks.{Task, Argument, Vector, Number, Truth, Numbers, Truths, name_in, target, task_of}
 use Rattle.cvl_calls.specs.Outcomes.{Effect, Stores, Frees, Answers, Operand, Held, operand_of, operands_of}
 use Rattle.cvl_calls.specs.Steps.{refused, applied, followed, stepped, work_on}
 use Rattle.cvl_calls.specs.Work.{work}
-use Rattle.batch_flatten.specs.Waves.{is_among, clashes}
+use Rattle.call_history.specs.Blocks.{after}
+use Rattle.batch_flatten.specs.Waves.{is_among, clashes, jobs_clash}
 use Rattle.batch_flatten.specs.Turns.{memory_after_tasks, answers_after, done_to, memory_done, answers_done, ReadsNoTarget, IsWave}
 
 lookup-removed : (es : List (Name × Content)) (n k : Name) → same_name n k ≡ false → lookup (same_name k) (remove_entry (same_name n) es) ≡ lookup (same_name k) es
@@ -101,6 +103,14 @@ pub work-stays : (m : State) (e t : Task) → clashes e t ≡ false → work_on 
 work-stays m e t f =
     ap (λ (limit : ℕ). work limit t.word (operands_of (stepped m e).memory t.arguments)) (followed-limit m (target e) (work_on m e))
     ∙ ap (work m.limit t.word) (operands-kept m (stepped m e).memory (target e) (stepped-keeps m e) t.arguments f)
+
+-- nor does it make anything else behind the calls of a job of which it reads no target
+pub after-stays : (m : State) (calls : List Call) (t : Task) → jobs_clash (map task_of calls) (t ∷ []) ≡ false → work_on (after m calls) t ≡ work_on m t
+after-stays m [] t f = refl
+after-stays m (c ∷ cs) t f =
+    let parts = or_false (clashes (task_of c) t || false) (jobs_clash (map task_of cs) (t ∷ [])) f in
+    let first = or_false (clashes (task_of c) t) false parts.0 in
+    after-stays (stepped m (task_of c)).memory cs t parts.1 ∙ work-stays m (task_of c) t first.0
 
 pub works_stay : (m : State) (before : List Task) (t : Task) → ReadsNoTarget before t → work_on (memory_after_tasks m before) t ≡ work_on m t
 works_stay m [] t h = refl

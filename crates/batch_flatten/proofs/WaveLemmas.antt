@@ -1,5 +1,5 @@
--- The wave of one more call: the least that is not barred (`free_from-least`), which is none past the calls before
--- (`wave_of-le`); `waves_of-push` adds a call, and `made-more` does where zeros stand behind the waves.
+-- The wave of one more job: the least that is not barred (`free_from-least`), which is none past the jobs before
+-- (`wave_of-le`); `waves_of-push` adds a job, and `made-more` does where zeros stand behind the waves.
 use Rattle.std.proofs.Common.{◌≡◌, ◌≢◌, ◌==◌, ℕ, zero, suc, ◌+◌, ◌-◌, ◌<◌, ◌≤◌, Bool, true, false, cond, ◌&&◌, ◌||◌, List, [], ◌∷◌, ◌++◌, length, map, zip, refl, sym, ap, ◌∙◌, arith, append-nil, append_assoc, ne_eqb, slice_set, set, get_or, take, replicate}
 use Rattle.std.proofs.lemmas.List.{take_more, map_more, length-take-le, length-map, take_at, set_at, length-append, length-replicate}
 use Rattle.std.proofs.lemmas.List.Folds.{list_any-append}
@@ -8,10 +8,10 @@ use mathlib.Core.Logic.{dite}
 use native.Mathlib.Decide.{ℕ_discrete}
 use Rattle.call_history.specs.declared.request.Request.{Request}
 use Rattle.cvl_text.specs.Tasks.{Task}
-use Rattle.batch_flatten.specs.Waves.{asked, clashes, is_barred, free_from, wave_of, waves_behind, waves_of}
+use Rattle.batch_flatten.specs.Waves.{asked, jobs_clash, is_barred, free_from, wave_of, waves_behind, waves_of}
 use Rattle.batch_flatten.specs.Plans.{placed}
 
-pub free_from-le : (before : List (ℕ × Task)) (t : Task) (s n : ℕ) → free_from before t s n ≤ s + n
+pub free_from-le : (before : List (ℕ × List Task)) (t : List Task) (s n : ℕ) → free_from before t s n ≤ s + n
 free_from-le before t s zero = omega arith
 free_from-le before t s (suc n) = by (is_barred before t s) (free_from-le before t (suc s) n)
   where
@@ -19,11 +19,11 @@ free_from-le before t s (suc n) = by (is_barred before t s) (free_from-le before
     by true le = omega arith
     by false le = omega arith
 
-pub wave_of-le : (before : List (ℕ × Task)) (t : Task) → wave_of before t ≤ length before
+pub wave_of-le : (before : List (ℕ × List Task)) (t : List Task) → wave_of before t ≤ length before
 wave_of-le before t = let le = free_from-le before t 0 (length before) in omega arith
 
 -- the first wave that is not barred, or the last that may be
-pub free_from-least : (before : List (ℕ × Task)) (t : Task) (s n w : ℕ) → s ≤ w → w ≤ s + n → ((v : ℕ) → s ≤ v → v < w → is_barred before t v ≡ true) → (w < s + n → is_barred before t w ≡ false) → free_from before t s n ≡ w
+pub free_from-least : (before : List (ℕ × List Task)) (t : List Task) (s n w : ℕ) → s ≤ w → w ≤ s + n → ((v : ℕ) → s ≤ v → v < w → is_barred before t v ≡ true) → (w < s + n → is_barred before t w ≡ false) → free_from before t s n ≡ w
 free_from-least before t s zero w from upto barred free = omega arith
 free_from-least before t s (suc n) w from upto barred free = dite (ℕ_discrete s w)
     (λ is. ap (λ b. cond b (free_from before t (suc s) n) s) (ap (is_barred before t) is ∙ free (omega arith)) ∙ is)
@@ -34,15 +34,15 @@ pub or_none : (a b : Bool) → a ≡ false → b ≡ false → (a || b) ≡ fals
 or_none true b e f = absurd cc
 or_none false b e f = f
 
-pub waves_behind-push : (before : List (ℕ × Task)) (ts : List Task) (t : Task) → waves_behind before (ts ++ t ∷ []) ≡ waves_behind before ts ++ wave_of (before ++ zip (waves_behind before ts) ts) t ∷ []
+pub waves_behind-push : (before : List (ℕ × List Task)) (ts : List (List Task)) (t : List Task) → waves_behind before (ts ++ t ∷ []) ≡ waves_behind before ts ++ wave_of (before ++ zip (waves_behind before ts) ts) t ∷ []
 waves_behind-push before [] t = ap (λ b. wave_of b t ∷ []) (sym (append-nil before))
 waves_behind-push before (x ∷ xs) t =
-    let first : ℕ × Task = (wave_of before x, x) in
+    let first : ℕ × List Task = (wave_of before x, x) in
     let rest : List ℕ = waves_behind (before ++ first ∷ []) xs in
     ap (λ (l : List ℕ). wave_of before x ∷ l) (waves_behind-push (before ++ first ∷ []) xs t
     ∙ ap (λ b. rest ++ wave_of b t ∷ []) (append_assoc before (first ∷ []) (zip rest xs)))
 
-pub waves_of-push : (ts : List Task) (t : Task) → waves_of (ts ++ t ∷ []) ≡ waves_of ts ++ wave_of (zip (waves_of ts) ts) t ∷ []
+pub waves_of-push : (ts : List (List Task)) (t : List Task) → waves_of (ts ++ t ∷ []) ≡ waves_of ts ++ wave_of (zip (waves_of ts) ts) t ∷ []
 waves_of-push ts t = waves_behind-push [] ts t
 
 zip-push : {X Y : Type 0} (xs : List X) (ys : List Y) (x : X) (y : Y) → length xs ≡ length ys → zip (xs ++ x ∷ []) (ys ++ y ∷ []) ≡ zip xs ys ++ (x, y) ∷ []
@@ -62,9 +62,9 @@ pub length-placed : (i : ℕ) (ws : List ℕ) (rs : List Request) → i ≤ leng
 length-placed i ws rs few within =
     omega (arith, length-zip (take i ws) (map asked (take i rs)), length-take-le i ws few, length-map (take i rs) asked, length-take-le i rs within)
 
--- one more call that does not bar the wave, or that does
-pub barred-push : (before : List (ℕ × Task)) (p : ℕ × Task) (t : Task) (w : ℕ) → is_barred (before ++ p ∷ []) t w ≡ (is_barred before t w || (p.0 == w && clashes p.1 t))
-barred-push before p t w = list_any-append (λ q. q.0 == w && clashes q.1 t) before (p ∷ []) ∙ ap (λ b. is_barred before t w || b) (or_last (p.0 == w && clashes p.1 t))
+-- one more job that does not bar the wave, or that does
+pub barred-push : (before : List (ℕ × List Task)) (p : ℕ × List Task) (t : List Task) (w : ℕ) → is_barred (before ++ p ∷ []) t w ≡ (is_barred before t w || (p.0 == w && jobs_clash p.1 t))
+barred-push before p t w = list_any-append (λ q. q.0 == w && jobs_clash q.1 t) before (p ∷ []) ∙ ap (λ b. is_barred before t w || b) (or_last (p.0 == w && jobs_clash p.1 t))
   where
     or_last : (b : Bool) → (b || false) ≡ b
     or_last true = refl
@@ -73,21 +73,21 @@ barred-push before p t w = list_any-append (λ q. q.0 == w && clashes q.1 t) bef
 pub barred-other : (v w : ℕ) (b : Bool) → v ≢ w → (v == w && b) ≡ false
 barred-other v w b other = ap (λ c. c && b) (ne_eqb v w other)
 
-length-waves_behind : (before : List (ℕ × Task)) (ts : List Task) → length (waves_behind before ts) ≡ length ts
+length-waves_behind : (before : List (ℕ × List Task)) (ts : List (List Task)) → length (waves_behind before ts) ≡ length ts
 length-waves_behind before [] = refl
 length-waves_behind before (t ∷ ts) = ap suc (length-waves_behind (before ++ (wave_of before t, t) ∷ []) ts)
 
-pub length-waves_of : (ts : List Task) → length (waves_of ts) ≡ length ts
+pub length-waves_of : (ts : List (List Task)) → length (waves_of ts) ≡ length ts
 length-waves_of ts = length-waves_behind [] ts
 
--- the waves so far, with zeros behind them, tell where the first calls are placed
+-- the waves so far, with zeros behind them, tell where the first jobs are placed
 pub placed-made : (i n : ℕ) (ws : List ℕ) (rs : List Request) → i ≤ length rs → ws ≡ waves_of (map asked (take i rs)) ++ replicate n 0 → placed i ws rs ≡ zip (waves_of (map asked (take i rs))) (map asked (take i rs))
 placed-made i n ws rs within made =
     let ts = map asked (take i rs) in
     let long : length (waves_of ts) ≡ i = length-waves_of ts ∙ (length-map (take i rs) asked ∙ length-take-le i rs within) in
     ap (λ l. zip (take i l) ts) made ∙ ap (λ l. zip l ts) (take_at (waves_of ts) (replicate n 0) i long)
 
--- one more call gets its wave
+-- one more job gets its wave
 pub made-more : (i : ℕ) (ws : List ℕ) (rs : List Request) (d : Request) → i < length rs → i < 64 → ws ≡ waves_of (map asked (take i rs)) ++ replicate (64 - i) 0
     → slice_set ws i (wave_of (placed i ws rs) (asked (get_or rs i d))) ≡ waves_of (map asked (take (i + 1) rs)) ++ replicate (64 - (i + 1)) 0
 made-more i ws rs d within few made =

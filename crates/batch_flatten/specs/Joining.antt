@@ -15,7 +15,7 @@ use Rattle.cvl_calls.specs.Outcomes.{Effect}
 use Rattle.cvl_calls.specs.Runs.{runs_kernel}
 use Rattle.cvl_calls.specs.Steps.{work_on}
 use Rattle.call_history.specs.declared.request.Outcome.{Outcome}
-use Rattle.call_history.specs.declared.request.Outcome.TheVariants.{Answered, Refused}
+use Rattle.call_history.specs.declared.request.Outcome.TheVariants.{Refused}
 use Rattle.call_history.specs.declared.work.Work.{Work}
 use Rattle.call_history.specs.Works.{IsWork}
 use Rattle.batch_flatten.specs.declared.turn.Turn.{Turn}
@@ -25,15 +25,15 @@ use Rattle.batch_flatten.specs.declared.turn.Turn.TheVariants.{Open, Single, Fau
 abbrev pub word_at : List Word → ℕ → Word
 word_at words position = slice_index_or words position SetInts
 
--- these are the words of the calls that are back, by their places
+-- these are the words of the single calls that are back, by their places
 abbrev pub AreNoted : List Word → List Outcome → Type 0
 AreNoted words outcomes = (place : ℕ) (c : Call) → slice_get outcomes place ≡ Some (Refused c) → word_at words place ≡ (task_of c).word
 
--- these are the words of the calls that are back, by their positions in a wave
+-- these are the words of the single calls that are back, by their positions in a wave
 abbrev pub AreWords : List Word → List Outcome → List ℕ → Type 0
 AreWords words outcomes places = (b : ℕ) (c : Call) → b < length places → slice_get outcomes (slice_index places b) ≡ Some (Refused c) → word_at words b ≡ (task_of c).word
 
--- what a call that is back makes of the memory; of an answer it is never asked
+-- what a single call that is back makes of the memory; of an answer or a block it is never asked
 abbrev pub work_back : State → Option Outcome → Result Effect Fault
 work_back m (Some (Refused call)) = work_on m (task_of call)
 work_back m other = Err NoVector
@@ -86,10 +86,10 @@ AreOpenTogether words turns position = (a b : ℕ) → a < length words → posi
 abbrev pub IsClosed : List Word → Word → List Turn → ℕ → ℕ → Type 0
 IsClosed words word turns from to = (b : ℕ) → from ≤ b → b < to → word_at words b ≡ word → slice_get turns b ≡ Some Open → ⊥
 
--- the call, where it is back, has this word
+-- the single call, where it is back, has this word
 abbrev pub IsOfWord : Word → Outcome → Type 0
 IsOfWord word (Refused call) = (task_of call).word ≡ word
-IsOfWord word (Answered place reply) = Unit {0}
+IsOfWord word outcome = Unit {0}
 
 -- what the judging of a call returns, where its work is said
 abbrev pub IsExamined : Result Effect Fault → Result Judged Stop → Type 0

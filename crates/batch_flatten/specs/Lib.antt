@@ -1,6 +1,8 @@
 pub mod Waves
 pub mod Turns
 pub mod Plans
+pub mod Targets
+pub mod BlockPlans
 pub mod Places
 pub mod Batches
 pub mod Serving

@@ -1,7 +1,8 @@
 //! Alike calls of a wave, which run as one.
 //!
 //! A call that is open at its turn, and has calls of its word behind it in the wave that are open too, leads them: all of them
-//! are judged, and those without a fault run as one. Where memory is wanted they take their turns by themselves.
+//! are judged, and those without a fault run as one. Where memory is wanted they take their turns by themselves. A block is never
+//! joined: its word runs no kernel.
 
 ghost use Rattle.std.specs.Prelude.{[], ◌≡◌, ◌≢◌, ◌⊎◌, ◌↔◌, ◌+◌, ◌<◌, ◌≤◌, All, IfOk, IfSome, IsTrue, List, Ok, Option, Some, false, length, map, slice_get, slice_index, slice_set, take, true, vec_len, ℕ};
 ghost use Rattle.scan_kernels.specs.Metering.{raised};
@@ -84,7 +85,7 @@ fn is_leader(words: &[Word], turns: &[Turn; BATCH_LIMIT], position: usize) -> bo
     false
 }
 
-/// Judges a call that is back.
+/// Judges a single call that is back.
 fn judge_back<'a>(
     alloc: Global,
     memory: &'a Memory,
@@ -96,6 +97,8 @@ fn judge_back<'a>(
     match outcome {
         Outcome::Refused(call) => judge(alloc, memory, call),
         Outcome::Answered { .. } => Err(Stop::OutOfMemory),
+        Outcome::AnsweredBlock { .. } => Err(Stop::OutOfMemory),
+        Outcome::RefusedBlock(_) => Err(Stop::OutOfMemory),
     }
 }
 

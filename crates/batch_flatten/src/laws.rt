@@ -4,7 +4,7 @@ ghost use Rattle.std.specs.Prelude.{◌≡◌, ◌<◌, ℕ, List, Some, false, 
 ghost use Rattle.vector_memory.specs.States.{State};
 ghost use Rattle.cvl_text.specs.Tasks.{Task};
 ghost use Rattle.cvl_calls.specs.Steps.{work_on};
-ghost use Rattle.batch_flatten.specs.Waves.{clashes, waves_of};
+ghost use Rattle.batch_flatten.specs.Waves.{jobs_clash, waves_of};
 ghost use Rattle.batch_flatten.specs.Turns.{memory_after_tasks, answers_after, memory_done, answers_done, ReadsNoTarget, IsWave};
 
 mod joining;
@@ -26,8 +26,8 @@ pub fn waves_are_turns()
     ensures answers { (m : State) (ts : List Task) → IsWave ts → answers_done m m ts ≡ answers_after m ts }
 {}
 
-/// Of two calls of one wave the later does not read the target of the earlier.
+/// Of two jobs of one wave no call of the later reads the target of a call of the earlier.
 pub fn waves_keep_apart()
-    ensures { (ts : List Task) (i j : ℕ) (t u : Task) → i < j → slice_get ts i ≡ Some t → slice_get ts j ≡ Some u
-        → slice_index (waves_of ts) i ≡ slice_index (waves_of ts) j → clashes t u ≡ false }
+    ensures { (jobs : List (List Task)) (i j : ℕ) (t u : List Task) → i < j → slice_get jobs i ≡ Some t → slice_get jobs j ≡ Some u
+        → slice_index (waves_of jobs) i ≡ slice_index (waves_of jobs) j → jobs_clash t u ≡ false }
 {}

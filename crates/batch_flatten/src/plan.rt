@@ -1,13 +1,15 @@
-//! What planning keeps in mind of the calls so far.
+//! What the planning of single calls keeps in mind of the requests so far.
 
-ghost use Rattle.std.specs.Prelude.{◌≡◌, ◌==◌, ◌<◌, ◌≤◌, ◌+◌, ◌||◌, ℕ, List, Option, None, true, false, length, replicate, slice_index, slice_index_or, slice_set};
+ghost use Rattle.std.specs.Prelude.{◌≡◌, ◌==◌, ◌<◌, ◌≤◌, ◌+◌, ◌||◌, ℕ, List, [], ◌∷◌, Option, true, false, length, replicate, slice_index, slice_index_or, slice_set};
 ghost use Rattle.std.specs.List.{list_any};
 ghost use Rattle.vector_memory.specs.declared.name.Name.{Name};
 ghost use Rattle.cvl_text.specs.Tasks.{reads, target, task_of};
 ghost use Rattle.batch_flatten.specs.Waves.{wave_of};
-ghost use Rattle.batch_flatten.specs.Plans.{IsPlan, bars, is_target, placed, target_at, targets_of};
+ghost use Rattle.batch_flatten.specs.Plans.{AreSingle, IsPlan, bars, placed, single_target, single_targets};
+ghost use Rattle.batch_flatten.specs.Targets.{is_target, target_at};
 
-use call_history::Request;
+use crate::targets::is_target;
+use call_history::{Job, Request};
 use cvl_text::{Call, NamesRead, names_read, target};
 use vector_memory::Name;
 
@@ -26,18 +28,18 @@ pub struct Plan {
     before: [u8; BATCH_LIMIT],
 }
 
-/// Whether the name is the target of the call.
-fn is_target(call: &Call, name: &Name) -> bool
-    ensures { result ≡ is_target name.now (target (task_of call.now)) }
+/// Whether the job is a single call with this target.
+fn has_target(job: &Job, name: &Name) -> bool
+    ensures { result ≡ is_target name.now (single_target job.now) }
 {
-    match target(call) {
-        Some(to) => to == *name,
-        None => false,
+    match job {
+        Job::One(call) => is_target(call, name),
+        Job::Many(_) => false,
     }
 }
 
 /// The first of so many waves that is not barred, or the one behind them.
-fn first_free(barred: &[bool; BATCH_LIMIT], count: u8) -> u8
+pub(crate) fn first_free(barred: &[bool; BATCH_LIMIT], count: u8) -> u8
     requires { count < BATCH_LIMIT }
     ensures within { result ≤ count }
     ensures passed { (wave : ℕ) → wave < result → slice_index_or barred.now wave false ≡ true }
@@ -65,18 +67,19 @@ impl Plan {
     }
 
     /// Bars the waves in which one of the first requests, so many, has the name as its target.
+    #[inline(always)]
     fn bar(&self, requests: &[Request], count: usize, name: &Name, barred: &mut [bool; BATCH_LIMIT])
-        requires plan { IsPlan self.now (targets_of requests.now) count }
+        requires plan { IsPlan self.now (single_targets requests.now) count }
         requires within { count ≤ length requests.now }
         requires few { count ≤ BATCH_LIMIT }
         ensures { (wave : ℕ) → wave < BATCH_LIMIT → slice_index_or barred.new wave false
-            ≡ (slice_index_or barred.old wave false || bars (targets_of requests.now) self.now.waves name.now wave count) }
+            ≡ (slice_index_or barred.old wave false || bars (single_targets requests.now) self.now.waves name.now wave count) }
     {
         let mut next = self.last[usize::from(name.bucket())];
         while next > 0 {
             let place = usize::from(next - 1);
             let wave = usize::from(self.waves[place]);
-            barred[wave] |= is_target(&requests[place].call, name);
+            barred[wave] |= has_target(&requests[place].job, name);
             next = self.before[place];
         }
     }
@@ -89,12 +92,12 @@ impl Plan {
         call: &Call,
         barred: &mut [bool; BATCH_LIMIT],
     )
-        requires plan { IsPlan self.now (targets_of requests.now) count }
+        requires plan { IsPlan self.now (single_targets requests.now) count }
         requires within { count ≤ length requests.now }
         requires few { count ≤ BATCH_LIMIT }
         ensures { (wave : ℕ) → wave < BATCH_LIMIT → slice_index_or barred.new wave false
             ≡ (slice_index_or barred.old wave false
-            || list_any (λ n. bars (targets_of requests.now) self.now.waves n wave count) (reads (task_of call.now))) }
+            || list_any (λ n. bars (single_targets requests.now) self.now.waves n wave count) (reads (task_of call.now))) }
     {
         match names_read(call) {
             NamesRead::Zero => {}
@@ -119,10 +122,11 @@ impl Plan {
 
     /// The wave of the call behind so many that have theirs.
     pub fn wave_of(&self, requests: &[Request], count: usize, call: &Call) -> u8
-        requires plan { IsPlan self.now (targets_of requests.now) count }
+        requires plan { IsPlan self.now (single_targets requests.now) count }
         requires within { count ≤ length requests.now }
         requires few { count < BATCH_LIMIT }
-        ensures { result ≡ wave_of (placed count self.now.waves requests.now) (task_of call.now) }
+        requires single { AreSingle requests.now count }
+        ensures { result ≡ wave_of (placed count self.now.waves requests.now) (task_of call.now ∷ []) }
     {
         let mut barred = [false; BATCH_LIMIT];
         self.bar_all(requests, count, call, &mut barred);

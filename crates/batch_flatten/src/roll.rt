@@ -1,18 +1,18 @@
-//! A batch is opened: what is asked of its requests more than once is noted, and their calls go into their outcomes.
+//! A batch is opened: what is asked of its requests more than once is noted, and their jobs go into their outcomes.
 
-ghost use Rattle.std.specs.Prelude.{◌≡◌, ◌<◌, ◌≤◌, [], length, map, take, vec_len, vec_capacity};
+ghost use Rattle.std.specs.Prelude.{◌≡◌, ◌<◌, ◌≤◌, [], length, map, sum_by, take, vec_len, vec_capacity};
 ghost use Rattle.std.specs.List.{AllByRecursion};
 ghost use Rattle.call_history.specs.Callers.{caller_limit};
-ghost use Rattle.call_history.specs.Fits.{returned};
+ghost use Rattle.call_history.specs.Fits.{IsLawfulJob, calls_of, handed_back, returned};
 ghost use Rattle.batch_flatten.specs.Waves.{asked, count_of, waves_of};
 ghost use Rattle.batch_flatten.specs.Places.{AreBelow};
-ghost use Rattle.batch_flatten.specs.Counts.{wave_count, word_asked};
+ghost use Rattle.batch_flatten.specs.Counts.{count_back, wave_count, word_asked, word_of_job};
 ghost use Rattle.batch_flatten.specs.Joining.{AreNoted};
-ghost use Rattle.batch_flatten.specs.Serving.{AreApart, caller_of};
+ghost use Rattle.batch_flatten.specs.Serving.{AreApart, AreLawful, caller_of};
 
 use crate::plan::BATCH_LIMIT;
 use crate::planning::waves;
-use call_history::{Outcome, Request};
+use call_history::{Job, Outcome, Request};
 use cvl_text::{Word, call_word};
 
 /// What is noted of the requests of a batch, by their places.
@@ -20,12 +20,14 @@ use cvl_text::{Word, call_word};
 pub(crate) struct Roll {
     /// The number of the caller.
     pub callers: [u8; BATCH_LIMIT],
-    /// The word of the call.
+    /// The word of a single call, or one that runs no kernel.
     pub words: [Word; BATCH_LIMIT],
     /// The wave.
     pub waves: [u8; BATCH_LIMIT],
     /// How many waves there are.
     pub count: u8,
+    /// How many calls all jobs have together.
+    pub calls: usize,
 }
 
 /// The callers of the requests, and 0 past the last.
@@ -42,14 +44,24 @@ fn callers_of(requests: &[Request]) -> [u8; BATCH_LIMIT]
     callers
 }
 
-/// The words of the calls of the requests, and one that runs no kernel past the last.
+/// The word of a single call; of a block one that runs no kernel.
+fn job_word(job: &Job) -> Word
+    ensures { result ≡ word_of_job job.now }
+{
+    match job {
+        Job::One(call) => call_word(call),
+        Job::Many(_) => Word::SetInts,
+    }
+}
+
+/// The words of the single calls of the requests, and one that runs no kernel at the others and past the last.
 fn words_of(requests: &[Request]) -> [Word; BATCH_LIMIT]
     requires { length requests.now ≤ BATCH_LIMIT }
     ensures { take (length requests.now) result ≡ map word_asked requests.now }
 {
     let mut words = [Word::SetInts; BATCH_LIMIT];
     for i in 0..requests.len() {
-        words[i] = call_word(&requests[i].call);
+        words[i] = job_word(&requests[i].job);
     }
     words
 }
@@ -67,7 +79,40 @@ fn wave_count(waves: &[u8; BATCH_LIMIT], count: usize) -> u8
     most
 }
 
-/// Hands each call back: it moves into its outcome, in the order of the requests.
+/// How many calls a job has.
+pub(crate) fn call_count(job: &Job) -> usize
+    ensures { result ≡ length (calls_of job.now) }
+{
+    match job {
+        Job::One(_) => 1,
+        Job::Many(calls) => calls.len(),
+    }
+}
+
+/// How many calls the jobs of the requests have together.
+fn count_calls(requests: &[Request]) -> usize
+    requires few { length requests.now ≤ BATCH_LIMIT }
+    requires jobs { AllByRecursion (λ r. IsLawfulJob r.job) requests.now }
+    ensures { result ≡ sum_by (λ r. length (calls_of r.job)) requests.now }
+{
+    let mut calls = 0;
+    for i in 0..requests.len() {
+        calls += call_count(&requests[i].job);
+    }
+    calls
+}
+
+/// The outcome of a job of which nothing has become yet: its calls back.
+pub(crate) fn handed_back(job: Job) -> Outcome
+    ensures { result ≡ handed_back job }
+{
+    match job {
+        Job::One(call) => Outcome::Refused(call),
+        Job::Many(calls) => Outcome::RefusedBlock(calls),
+    }
+}
+
+/// Hands each job back: it moves into its outcome, in the order of the requests.
 pub(crate) fn hand_back(requests: &mut Vec<Request>, outcomes: &mut Vec<Outcome>)
     requires empty { outcomes.old.items ≡ [] }
     requires spaces { vec_len requests.old ≤ vec_capacity outcomes.old }
@@ -78,15 +123,16 @@ pub(crate) fn hand_back(requests: &mut Vec<Request>, outcomes: &mut Vec<Outcome>
 {
     requests.reverse();
     while let Some(request) = requests.pop() {
-        let Request { caller: _, call } = request;
-        outcomes.push_reserved(Outcome::Refused(call));
+        let Request { caller: _, job } = request;
+        outcomes.push_reserved(handed_back(job));
     }
 }
 
-/// Notes what is asked of the requests, and hands their calls back.
+/// Notes what is asked of the requests, and hands their jobs back.
 pub(crate) fn open(requests: &mut Vec<Request>, outcomes: &mut Vec<Outcome>) -> Roll
     requires few { vec_len requests.old ≤ BATCH_LIMIT }
     requires lawful { AllByRecursion (λ r. r.caller < caller_limit) requests.old.items }
+    requires jobs { AllByRecursion (λ r. IsLawfulJob r.job) requests.old.items }
     requires empty { outcomes.old.items ≡ [] }
     requires spaces { vec_len requests.old ≤ vec_capacity outcomes.old }
     ensures callers { take (length requests.old.items) result.callers ≡ map caller_of requests.old.items }
@@ -94,6 +140,8 @@ pub(crate) fn open(requests: &mut Vec<Request>, outcomes: &mut Vec<Outcome>) -> 
     ensures words { take (length requests.old.items) result.words ≡ map word_asked requests.old.items }
     ensures waves { take (length requests.old.items) result.waves ≡ waves_of (map asked requests.old.items) }
     ensures count { result.count ≡ wave_count requests.old.items }
+    ensures calls { result.calls ≡ count_back outcomes.new.items }
+    ensures lawful_jobs { AreLawful outcomes.new.items }
     ensures outcomes { outcomes.new.items ≡ map returned requests.old.items }
     ensures noted { AreNoted result.words outcomes.new.items }
     ensures apart { AreApart result.waves outcomes.new.items }
@@ -103,6 +151,7 @@ pub(crate) fn open(requests: &mut Vec<Request>, outcomes: &mut Vec<Outcome>) -> 
 {
     let callers = callers_of(requests);
     let words = words_of(requests);
+    let calls = count_calls(requests);
     let planned = waves(requests);
     let count = wave_count(&planned, requests.len());
     hand_back(requests, outcomes);
@@ -111,5 +160,6 @@ pub(crate) fn open(requests: &mut Vec<Request>, outcomes: &mut Vec<Outcome>) -> 
         words,
         waves: planned,
         count,
+        calls,
     }
 }

@@ -5,13 +5,13 @@ ghost use Rattle.std.specs.List.{AllByRecursion, AllPairs};
 ghost use Rattle.call_history.specs.declared.entry.Entry.{Entry};
 ghost use Rattle.call_history.specs.declared.request.Request.{Request};
 ghost use Rattle.call_history.specs.Callers.{caller_limit};
-ghost use Rattle.call_history.specs.Fits.{returned};
+ghost use Rattle.call_history.specs.Fits.{IsLawfulJob, returned};
 ghost use Rattle.batch_flatten.specs.Waves.{count_of};
 ghost use Rattle.batch_flatten.specs.Places.{AreBelow, places_of_first};
 ghost use Rattle.batch_flatten.specs.Batches.{AnswersAllSure, ServesInOrder};
-ghost use Rattle.batch_flatten.specs.Counts.{RisesBy, kernel_bound, kernels_below, wave_count};
+ghost use Rattle.batch_flatten.specs.Counts.{RisesBy, count_back, kernel_bound, kernels_below, sizes_back, wave_count};
 ghost use Rattle.batch_flatten.specs.Joining.{AreNoted};
-ghost use Rattle.batch_flatten.specs.Serving.{AnswersSure, AreApart, AreAskedBy, Serving, WereBack};
+ghost use Rattle.batch_flatten.specs.Serving.{AnswersSure, AreApart, AreAskedBy, AreLawful, Serving, WereBack};
 
 use crate::alone::serve_alone;
 use crate::plan::BATCH_LIMIT;
@@ -34,15 +34,16 @@ fn serve_waves(
 ) -> u64
     requires few { vec_len outcomes.old ≤ BATCH_LIMIT }
     requires lawful { AreBelow caller_limit roll.now.callers }
-    requires space { vec_len outcomes.old ≤ book.old.spaces }
+    requires lawful_jobs { AreLawful outcomes.old.items }
+    requires space { count_back outcomes.old.items ≤ book.old.spaces }
     requires words { AreNoted roll.now.words outcomes.old.items }
     requires apart { AreApart roll.now.waves outcomes.old.items }
     ensures serves { (line : List Entry) (rs : List Request) → AreAskedBy rs roll.now.callers
         → Serving book.old.room line rs [] book.old.history outcomes.old.items
         → Serving book.old.room line rs (places_of_first (take (vec_len outcomes.old) roll.now.waves) roll.now.count) book.new.history outcomes.new.items }
     ensures sure { AnswersSure outcomes.new.items (places_of_first (take (vec_len outcomes.old) roll.now.waves) roll.now.count) }
-    ensures counted { RisesBy (kernels_below (take (vec_len outcomes.old) roll.now.waves) (take (vec_len outcomes.old) roll.now.words) roll.now.count + result)
-        meter.old meter.new }
+    ensures counted { RisesBy (kernels_below (take (vec_len outcomes.old) roll.now.waves) (take (vec_len outcomes.old) roll.now.words)
+        (sizes_back outcomes.old.items) roll.now.count + result) meter.old meter.new }
     ensures few_singles { result ≤ vec_len outcomes.old }
     ensures back { WereBack outcomes.old.items outcomes.new.items }
     ensures room { book.new.room ≡ book.old.room }
@@ -75,8 +76,9 @@ fn serve_waves(
     singles
 }
 
-/// Serves the requests of a batch in the order of their waves. What became of them stands in their own order. Where the history
-/// cannot be reserved, each call comes back and nothing changes.
+/// Serves the requests of a batch in the order of their waves. What became of them stands in their own order. A block takes its turn
+/// as one: its calls stand next to one another in the history, or all of them come back. Where the history cannot be reserved, each
+/// job comes back and nothing changes.
 pub fn run_batch(
     execution: &impl Execution,
     alloc: Global,
@@ -87,6 +89,7 @@ pub fn run_batch(
 ) -> Ran
     requires few { vec_len requests.old ≤ BATCH_LIMIT }
     requires lawful { AllByRecursion (λ r. r.caller < caller_limit) requests.old.items }
+    requires jobs { AllByRecursion (λ r. IsLawfulJob r.job) requests.old.items }
     requires distinct { AllPairs (λ r s. r.caller ≢ s.caller) requests.old.items }
     requires empty { outcomes.old.items ≡ [] }
     requires spaces { vec_len requests.old ≤ vec_capacity outcomes.old }
@@ -105,9 +108,10 @@ pub fn run_batch(
     if requests.len() < 2 {
         return serve_alone(execution, alloc, book, requests, outcomes, meter);
     }
-    let count = requests.len();
+    // In a book no block is cut.
+    let _entries = book.len();
     let roll = open(requests, outcomes);
-    let Ok(()) = book.reserve(count) else {
+    let Ok(()) = book.reserve(roll.calls) else {
         return Ran::NOTHING;
     };
     let before = meter.runs();

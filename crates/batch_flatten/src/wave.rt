@@ -1,6 +1,6 @@
-//! One wave: its calls take their turns in the order of the requests.
+//! One wave: its jobs take their turns in the order of the requests.
 
-ghost use Rattle.std.specs.Prelude.{◌≡◌, ◌≢◌, ◌+◌, ◌<◌, ◌≤◌, ◌∷◌, ◌++◌, [], ℕ, List, All, Some, length, slice_get, slice_index, take, vec_len, vec_capacity};
+ghost use Rattle.std.specs.Prelude.{◌≡◌, ◌≢◌, ◌+◌, ◌<◌, ◌≤◌, ◌∷◌, ◌++◌, [], ℕ, List, All, Some, length, slice_get, slice_index, sum, take, vec_len, vec_capacity};
 ghost use Rattle.std.specs.List.{AllPairs};
 ghost use Rattle.call_history.specs.declared.entry.Entry.{Entry};
 ghost use Rattle.call_history.specs.declared.request.Request.{Request};
@@ -9,10 +9,10 @@ ghost use Rattle.call_history.specs.Books.{memory_of};
 ghost use Rattle.call_history.specs.Callers.{caller_limit};
 ghost use Rattle.scan_kernels.specs.Metering.{Metered};
 ghost use Rattle.batch_flatten.specs.Waves.{in_wave};
-ghost use Rattle.batch_flatten.specs.Places.{AreBelow, IsOutside, places_of};
-ghost use Rattle.batch_flatten.specs.Counts.{CountsTurn, RisesBy, different_kernels, single_of};
+ghost use Rattle.batch_flatten.specs.Places.{AreBelow, IsOutside, at_places, places_of};
+ghost use Rattle.batch_flatten.specs.Counts.{CountsTurn, RisesBy, count_back, different_kernels, single_of, size_at, sizes_back};
 ghost use Rattle.batch_flatten.specs.Joining.{AreOpenTogether, ArePrepared, AreWords, IsReadyWork};
-ghost use Rattle.batch_flatten.specs.Serving.{AnswersSure, AreAskedBy, DoNotClash, Serving, TurnsMemory, WereBack};
+ghost use Rattle.batch_flatten.specs.Serving.{AnswersSure, AreAskedBy, AreLawful, DoNotClash, Serving, TurnsMemory, WereBack};
 
 use crate::joining::join;
 use crate::plan::BATCH_LIMIT;
@@ -48,7 +48,7 @@ pub(crate) fn find_wave(
     many
 }
 
-/// The turn of the call at this place, with its work where that was done before.
+/// The turn of the job at this place, with its work where that was done before.
 fn serve_place(
     execution: &impl Execution,
     alloc: Global,
@@ -62,7 +62,8 @@ fn serve_place(
     requires few { vec_len outcomes.old ≤ BATCH_LIMIT }
     requires lawful { AreBelow caller_limit callers.now }
     requires place { place < vec_len outcomes.old }
-    requires space { 0 < book.old.spaces }
+    requires lawful_jobs { AreLawful outcomes.old.items }
+    requires space { count_back outcomes.old.items ≤ book.old.spaces }
     requires ready { IsReadyWork (memory_of book.old) (slice_get outcomes.old.items place) work }
     ensures serves { (line : List Entry) (rs : List Request) (done : List ℕ) → AreAskedBy rs callers.now → IsOutside done place
         → Serving book.old.room line rs done book.old.history outcomes.old.items
@@ -73,7 +74,7 @@ fn serve_place(
     ensures others { (p : ℕ) → p ≢ place → slice_get outcomes.new.items p ≡ slice_get outcomes.old.items p }
     ensures back { WereBack outcomes.old.items outcomes.new.items }
     ensures room { book.new.room ≡ book.old.room }
-    ensures spaces_left { book.old.spaces ≤ book.new.spaces + 1 }
+    ensures space { count_back outcomes.new.items ≤ book.new.spaces }
     ensures counted { CountsTurn (slice_get outcomes.old.items place) work meter.old meter.new }
     ensures count { vec_len outcomes.new ≡ vec_len outcomes.old }
     ensures spaces { vec_capacity outcomes.new ≡ vec_capacity outcomes.old }
@@ -95,7 +96,7 @@ fn single(turn: Turn) -> u64
     }
 }
 
-/// The turn of the call at a position of the wave, before which it may be joined with later ones. Whether it ran by itself
+/// The turn of the job at a position of the wave, before which a call may be joined with later ones. Whether it ran by itself
 /// though it was to be joined: 1 or 0.
 fn serve_next(
     execution: &impl Execution,
@@ -117,7 +118,8 @@ fn serve_next(
     requires within { All (λ p. p < vec_len outcomes.old) places.now }
     requires rising { AllPairs (λ p q. p < q) places.now }
     requires position { position < length places.now }
-    requires space { 0 < book.old.spaces }
+    requires lawful_jobs { AreLawful outcomes.old.items }
+    requires space { count_back outcomes.old.items ≤ book.old.spaces }
     requires words { AreWords words.now outcomes.old.items places.now }
     requires apart { AllPairs (DoNotClash outcomes.old.items) places.now }
     requires prepared { ArePrepared (memory_of book.old) outcomes.old.items places.now words.now turns.old works.old.items position }
@@ -130,13 +132,14 @@ fn serve_next(
         → AnswersSure outcomes.new.items (done ++ slice_index places.now position ∷ []) }
     ensures prepared { ArePrepared (memory_of book.new) outcomes.new.items places.now words.now turns.new works.new.items (position + 1) }
     ensures together { AreOpenTogether words.now turns.new (position + 1) }
-    ensures counted { (start : Metered) (singles : ℕ)
-        → RisesBy (different_kernels (take position words.now) + singles) start meter.old
-        → RisesBy (different_kernels (take (position + 1) words.now) + (singles + result)) start meter.new }
+    ensures counted { (start : Metered) (others : ℕ)
+        → RisesBy (different_kernels (take position words.now) + others) start meter.old
+        → RisesBy (different_kernels (take (position + 1) words.now)
+        + (others + size_at outcomes.old.items (slice_index places.now position) + result)) start meter.new }
     ensures one { result ≤ 1 }
     ensures back { WereBack outcomes.old.items outcomes.new.items }
     ensures room { book.new.room ≡ book.old.room }
-    ensures spaces_left { book.old.spaces ≤ book.new.spaces + 1 }
+    ensures space { count_back outcomes.new.items ≤ book.new.spaces }
     ensures count { vec_len outcomes.new ≡ vec_len outcomes.old }
     ensures spaces { vec_capacity outcomes.new ≡ vec_capacity outcomes.old }
 {
@@ -161,7 +164,7 @@ fn serve_next(
     single(turn)
 }
 
-/// Serves one wave: the calls at its places, one after the other. How many of them ran by themselves though they were to be
+/// Serves one wave: the jobs at its places, one after the other. How many calls ran by themselves though they were to be
 /// joined.
 pub(crate) fn serve_wave(
     execution: &impl Execution,
@@ -179,7 +182,8 @@ pub(crate) fn serve_wave(
     requires paired { length words.now ≡ length places.now }
     requires within { All (λ p. p < vec_len outcomes.old) places.now }
     requires rising { AllPairs (λ p q. p < q) places.now }
-    requires space { length places.now ≤ book.old.spaces }
+    requires lawful_jobs { AreLawful outcomes.old.items }
+    requires space { count_back outcomes.old.items ≤ book.old.spaces }
     requires words { AreWords words.now outcomes.old.items places.now }
     requires apart { AllPairs (DoNotClash outcomes.old.items) places.now }
     ensures serves { (line : List Entry) (rs : List Request) (done : List ℕ) → AreAskedBy rs callers.now
@@ -187,11 +191,11 @@ pub(crate) fn serve_wave(
         → Serving book.old.room line rs done book.old.history outcomes.old.items
         → Serving book.old.room line rs (done ++ places.now) book.new.history outcomes.new.items }
     ensures sure { (done : List ℕ) → AnswersSure outcomes.old.items done → AnswersSure outcomes.new.items (done ++ places.now) }
-    ensures counted { RisesBy (different_kernels words.now + result) meter.old meter.new }
+    ensures counted { RisesBy (different_kernels words.now + (sum (at_places (sizes_back outcomes.old.items) places.now) + result)) meter.old meter.new }
     ensures few_singles { result ≤ length places.now }
     ensures back { WereBack outcomes.old.items outcomes.new.items }
     ensures room { book.new.room ≡ book.old.room }
-    ensures spaces_left { book.old.spaces ≤ book.new.spaces + length places.now }
+    ensures space { count_back outcomes.new.items ≤ book.new.spaces }
     ensures count { vec_len outcomes.new ≡ vec_len outcomes.old }
     ensures spaces { vec_capacity outcomes.new ≡ vec_capacity outcomes.old }
 {

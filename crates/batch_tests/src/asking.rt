@@ -1,11 +1,12 @@
 //! Books and batches from the lines of their calls, and what came of them as texts.
 
 ghost use Rattle.std.specs.Prelude.{◌≡◌, ◌≤◌, IfOk, length, map, vec_len};
-ghost use Rattle.std.specs.List.{range_with_len};
+ghost use Rattle.std.specs.List.{AllByRecursion, range_with_len};
+ghost use Rattle.call_history.specs.Fits.{IsLawfulJob};
 ghost use Rattle.batch_flatten.specs.Serving.{caller_of};
 
 use batch_flatten::{BATCH_LIMIT, Ran, run_batch};
-use call_history::{Book, Outcome, Request};
+use call_history::{Book, Job, Outcome, Request};
 use cvl_text::{Call, Reply, write_value};
 use scan_kernels::{Meter, Sequential};
 use std::alloc::Global;
@@ -31,6 +32,7 @@ pub(crate) fn book_of(alloc: Global, room: u64, lines: &str) -> Result<Book, Fai
 pub(crate) fn batch_of(alloc: Global, lines: &str) -> Result<Vec<Request>, Fail>
     ensures few { IfOk result (λ requests. vec_len requests ≤ BATCH_LIMIT) }
     ensures callers { IfOk result (λ requests. map caller_of requests.items ≡ range_with_len 0 (length requests.items)) }
+    ensures jobs { IfOk result (λ requests. AllByRecursion (λ r. IsLawfulJob r.job) requests.items) }
 {
     let mut requests = Vec::new(alloc);
     for line in lines.lines() {
@@ -39,7 +41,8 @@ pub(crate) fn batch_of(alloc: Global, lines: &str) -> Result<Vec<Request>, Fail>
         }
         let call = Call::read(alloc, line.as_bytes())?;
         let caller = requests.len() as u64;
-        requests.push(Request { caller, call })?;
+        let job = Job::One(call);
+        requests.push(Request { caller, job })?;
     }
     Ok(requests)
 }

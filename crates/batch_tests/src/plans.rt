@@ -1,7 +1,7 @@
 //! Plans whose waves were worked out by hand.
 
 use batch_flatten::{BATCH_LIMIT, waves};
-use call_history::Request;
+use call_history::{Job, Request};
 use cvl_text::Call;
 use std::alloc::Global;
 use std::process::Abort;
@@ -12,7 +12,8 @@ fn are_waves(rt: &impl Abort, alloc: Global, lines: &[&[u8]], wanted: &[u8]) -> 
     let mut requests = Vec::new(alloc);
     for line in lines {
         let call = Call::read(alloc, line)?;
-        requests.push(Request { caller: 0, call })?;
+        let job = Job::One(call);
+        requests.push(Request { caller: 0, job })?;
     }
     assert!(rt; requests.len() <= BATCH_LIMIT && wanted.len() <= BATCH_LIMIT);
     let found = waves(&requests);

@@ -4,49 +4,72 @@
 //! Contracts say what came of the calls that were answered. What no contract can say is asked here: that a refused growth of a
 //! group has its calls run by themselves, and that any other comes to one call alone.
 
+ghost use Rattle.std.specs.Prelude.{◌≡◌, ◌≤◌, [], IfOk, length, map, vec_capacity, vec_len};
+ghost use Rattle.std.specs.List.{AllByRecursion, range_with_len};
+ghost use Rattle.call_history.specs.Fits.{IsLawfulJob};
+ghost use Rattle.batch_flatten.specs.Serving.{caller_of};
+
 use crate::asking::{batch_of, book_of};
 use batch_flatten::{BATCH_LIMIT, Ran, run_batch};
-use call_history::Outcome;
+use call_history::{Outcome, Request};
 use scan_kernels::{Meter, Sequential};
 use std::alloc::Global;
 use std::process::Abort;
 use std::test::Fail;
 
+/// The requests for the calls of these lines, and space for what becomes of them.
+fn asked(alloc: Global, calls: &str) -> Result<(Vec<Request>, Vec<Outcome>), Fail>
+    ensures few { IfOk result (λ made. vec_len made.0 ≤ BATCH_LIMIT) }
+    ensures callers { IfOk result (λ made. map caller_of made.0.items ≡ range_with_len 0 (length made.0.items)) }
+    ensures jobs { IfOk result (λ made. AllByRecursion (λ r. IsLawfulJob r.job) made.0.items) }
+    ensures empty { IfOk result (λ made. made.1.items ≡ []) }
+    ensures spaces { IfOk result (λ made. BATCH_LIMIT ≤ vec_capacity made.1) }
+{
+    let outcomes = Vec::with_capacity(alloc, BATCH_LIMIT)?;
+    let requests = batch_of(alloc, calls)?;
+    Ok((requests, outcomes))
+}
+
+/// How many calls came back.
+fn count_back(outcomes: &[Outcome]) -> usize {
+    outcomes
+        .iter()
+        .filter(|outcome| matches!(outcome, Outcome::Refused(_)))
+        .count()
+}
+
 /// Serves the calls of these lines as one batch behind these. Asserts that at most one of them comes back, or all do and
-/// nothing has changed, and prints how they were served.
+/// nothing has changed, and prints how they were served. It leaves at its end alone, where all that it holds is dropped once.
 fn serves_the_others<R: Abort + Alloc<A = Global> + Print>(
     rt: &R,
     before: &str,
     calls: &str,
 ) -> Result<(), Fail> {
+    let (mut requests, mut outcomes) = asked(rt.alloc(), calls)?;
     let mut book = book_of(rt.alloc(), 1000, before)?;
-    let mut requests = batch_of(rt.alloc(), calls)?;
-    let mut outcomes = Vec::with_capacity(rt.alloc(), BATCH_LIMIT)?;
-    let mut meter = Meter::new();
     let length = book.len();
-    println!(rt; "begin")?;
+    let begun = println!(rt; "begin");
     let ran = run_batch(
         &Sequential,
         rt.alloc(),
         &mut book,
         &mut requests,
         &mut outcomes,
-        &mut meter,
+        &mut Meter::new(),
     );
-    println!(rt; "end")?;
-    let back = outcomes
-        .iter()
-        .filter(|outcome| matches!(outcome, Outcome::Refused(_)))
-        .count();
+    let ended = println!(rt; "end");
+    let back = count_back(&outcomes);
     let none_ran = ran == Ran::NOTHING && back == outcomes.len() && book.len() == length;
+    assert!(rt; begun.is_ok() && ended.is_ok());
     assert!(rt; back <= 1 || none_ran, "{calls}");
-    assert!(rt; book.audit(&Sequential, rt.alloc())?, "{calls}");
+    assert!(rt; book.audit(&Sequential, rt.alloc()) == Ok(true), "{calls}");
     let Ran {
         waves,
         kernels,
         singles,
     } = ran;
-    println!(rt; "{waves} waves, {kernels} kernels, {singles} singles, {back} back")?;
+    let said = println!(rt; "{waves} waves, {kernels} kernels, {singles} singles, {back} back");
+    assert!(rt; said.is_ok());
     Ok(())
 }
 

@@ -5,10 +5,11 @@
 ghost use Rattle.std.specs.Prelude.{◌≡◌, ◌≢◌, ◌<◌, ◌≤◌, [], length, vec_len, OnSome};
 ghost use Rattle.std.specs.List.{AllByRecursion, AllPairs};
 ghost use Rattle.call_history.specs.Callers.{caller_limit};
+ghost use Rattle.call_history.specs.Fits.{IsLawfulJob};
 
 use crate::operands::{name, numbers};
 use batch_flatten::{BATCH_LIMIT, run_batch};
-use call_history::{Book, CALLER_LIMIT, Outcome, Request};
+use call_history::{Book, CALLER_LIMIT, Job, Outcome, Request};
 use cvl_text::{Call, Z2};
 use scan_kernels::{Meter, Sequential};
 use std::alloc::Global;
@@ -117,17 +118,18 @@ fn ask(requests: &mut Vec<Request>, calls: &Calls) -> Option<()>
     ensures few { OnSome result (vec_len requests.new ≤ BATCH_LIMIT) }
     ensures lawful { OnSome result (AllByRecursion (λ r. r.caller < caller_limit) requests.new.items) }
     ensures distinct { OnSome result (AllPairs (λ r s. r.caller ≢ s.caller) requests.new.items) }
+    ensures jobs { OnSome result (AllByRecursion (λ r. IsLawfulJob r.job) requests.new.items) }
 {
     requests.clear();
     for k in 0..calls.targets.len() {
-        let call = Call::MapZ2 {
+        let job = Job::One(Call::MapZ2 {
             to: calls.targets[k],
             op: Z2::Add,
             a: calls.left,
             b: calls.right,
-        };
+        });
         let caller = k as u64;
-        let request = Request { caller, call };
+        let request = Request { caller, job };
         let Ok(()) = requests.push(request) else {
             return None;
         };
@@ -138,7 +140,10 @@ fn ask(requests: &mut Vec<Request>, calls: &Calls) -> Option<()>
 /// Serves the requests one by one, from the last to the first.
 fn serve_each(alloc: Global, book: &mut Book, lists: &mut Lists) -> Option<()> {
     while let Some(request) = lists.requests.pop() {
-        let Request { caller, call } = request;
+        let Request { caller, job } = request;
+        let Job::One(call) = job else {
+            return None;
+        };
         if caller >= CALLER_LIMIT as u64 {
             return None;
         }

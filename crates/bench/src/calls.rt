@@ -1,10 +1,11 @@
-//! The calls of one caller of a shared machine: its names are filled, and each call is answered in one of two ways.
+//! The calls of one caller of a shared machine: its names are filled, and its calls are answered in one of three ways.
 
 ghost use Rattle.std.specs.Prelude.{◌≡◌, OnSome};
 ghost use Rattle.combiner.specs.Standing.{IsIdle};
 
 use crate::load::Way;
-use crate::operands::{name, numbers};
+use crate::operands::{add, adds, name, numbers};
+use call_history::BLOCK_LIMIT;
 use combiner::{Caller, Combined, Polled, Shared};
 use cvl_text::Call;
 use scan_kernels::Sequential;
@@ -85,18 +86,43 @@ fn step(
     match shared.poll(caller) {
         Polled::Answered { .. } => Some(()),
         Polled::OutOfMemory(_) => None,
+        Polled::AnsweredBlock { .. } | Polled::OutOfMemoryBlock(_) => None,
         Polled::Waiting | Polled::Idle => unreachable!(),
     }
 }
 
-/// One call. None where it was not answered.
+/// A block of so many calls of one kind. None where it was not answered.
+fn block(
+    rt: &(impl Threads + Wait + Sync),
+    alloc: Global,
+    shared: &Shared,
+    caller: &mut Caller,
+    size: u32,
+    x: Name,
+    y: Name,
+) -> Option<()>
+    requires machine { caller.old.machine ≡ shared.now }
+    requires idle { IsIdle caller.old }
+    ensures machine { caller.new.machine ≡ shared.now }
+    ensures idle { OnSome result (IsIdle caller.new) }
+{
+    let calls = adds(alloc, size, x, y)?;
+    if calls.is_empty() || calls.len() > BLOCK_LIMIT {
+        return None;
+    }
+    shared.call_block(rt, alloc, caller, calls).ok()?;
+    Some(())
+}
+
+/// One call `x = add_wuz x y`, or a block of them. None where it was not answered.
 pub fn call_once(
     rt: &(impl Threads + Wait + Sync),
     alloc: Global,
     shared: &Shared,
     caller: &mut Caller,
     way: Way,
-    call: Call,
+    x: Name,
+    y: Name,
 ) -> Option<()>
     requires machine { caller.old.machine ≡ shared.now }
     requires idle { IsIdle caller.old }
@@ -105,9 +131,10 @@ pub fn call_once(
 {
     match way {
         Way::Call => {
-            shared.call(rt, alloc, caller, call).ok()?;
+            shared.call(rt, alloc, caller, add(x, y)).ok()?;
             Some(())
         }
-        Way::Steps => step(rt, alloc, shared, caller, call),
+        Way::Steps => step(rt, alloc, shared, caller, add(x, y)),
+        Way::Block(size) => block(rt, alloc, shared, caller, size, x, y),
     }
 }

@@ -3,11 +3,12 @@
 //! `bench shared` times threads that share a machine, as `rates.rt` and `latencies.rt` say. `bench shared WORDS` prints the rows
 //! of those loads alone whose name begins so, as `bench shared "T=4 len=16"`. `bench batch` times batches, as `batch.rt` says,
 //! and how they are planned, as `plans.rt` says. `bench chunks` times kernels in threads, as `chunks.rt` says, and `bench over`
-//! results that are written over an operand, as `over.rt` says. Without arguments it prints its usage; so it does for other
+//! results that are written over an operand, as `over.rt` says, and `bench blocks` blocks of calls on a book, as `blocks.rt` says. Without arguments it prints its usage; so it does for other
 //! arguments, and for words with which no load's name begins, with status 2.
 #![tactic(auto)]
 
 mod batch;
+mod blocks;
 mod calls;
 mod case;
 mod chunks;
@@ -32,7 +33,7 @@ use std::rt::Clock;
 use std::thread::Threads;
 use std::{env, io};
 
-const USAGE: &str = "usage: bench kernels|shared [WORDS]|batch|chunks|over";
+const USAGE: &str = "usage: bench kernels|shared [WORDS]|batch|blocks|chunks|over";
 
 /// How many items the kernels run over.
 const SIZES: [u32; 4] = [1_000, 32_000, 1_000_000, 16_000_000];
@@ -61,6 +62,7 @@ enum Asked {
     /// The rows of the shared machine whose names begin so.
     Shared(String),
     Batch,
+    Blocks,
     Chunks,
     Over,
     Unknown,
@@ -81,6 +83,7 @@ fn read_arguments(rt: &HostRuntime) -> io::Result<Asked> {
         ("shared", None) => Asked::Shared(String::new(rt.alloc())),
         ("shared", Some(words)) => Asked::Shared(words),
         ("batch", None) => Asked::Batch,
+        ("blocks", None) => Asked::Blocks,
         ("chunks", None) => Asked::Chunks,
         ("over", None) => Asked::Over,
         _ => Asked::Unknown,
@@ -105,6 +108,7 @@ fn main(rt: HostRuntime) -> io::Result<ExitCode> {
             plans::rows(&rt)?;
             batch::rows(&rt)?;
         }
+        Asked::Blocks => blocks::rows(&rt)?,
         Asked::Chunks => chunks::rows(&rt)?,
         Asked::Over => over::rows(&rt)?,
         Asked::Usage => println!(rt; "{USAGE}")?,

@@ -1,5 +1,6 @@
 //! The names and the numbers of the calls that are timed.
 
+use cvl_text::{Call, Z2};
 use std::alloc::Global;
 use vector_memory::Name;
 
@@ -19,4 +20,23 @@ pub fn numbers(alloc: Global, items: u32, first: i64, step: i64) -> Option<Vec<i
         number = number.wrapping_add(step);
     }
     Some(numbers)
+}
+
+/// The call `x = add_wuz x y`.
+pub fn add(x: Name, y: Name) -> Call {
+    Call::MapZ2 {
+        to: x,
+        op: Z2::Add,
+        a: x,
+        b: y,
+    }
+}
+
+/// So many calls `x = add_wuz x y`. None where memory is refused.
+pub fn adds(alloc: Global, count: u32, x: Name, y: Name) -> Option<Vec<Call>> {
+    let mut calls = Vec::with_capacity(alloc, count as usize).ok()?;
+    for _ in 0..count {
+        calls.push(add(x, y)).ok()?;
+    }
+    Some(calls)
 }

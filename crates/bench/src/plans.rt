@@ -4,7 +4,7 @@ ghost use Rattle.std.specs.Prelude.{◌≤◌, vec_len};
 
 use crate::operands::name;
 use batch_flatten::{BATCH_LIMIT, waves};
-use call_history::Request;
+use call_history::{Job, Request};
 use cvl_text::{Call, Z2};
 use std::alloc::Global;
 use std::io;
@@ -60,8 +60,8 @@ fn requests_of(alloc: Global, reads: Reads, count: u32) -> Option<Vec<Request>> 
     let mut requests = Vec::new(alloc);
     for k in 0..count {
         let caller = u64::from(k);
-        let call = call_at(reads, caller)?;
-        requests.push(Request { caller, call }).ok()?;
+        let job = Job::One(call_at(reads, caller)?);
+        requests.push(Request { caller, job }).ok()?;
     }
     Some(requests)
 }

@@ -14,10 +14,16 @@ const THREADS: [u32; 3] = [1, 2, 4];
 /// How many items the vectors have.
 const ITEMS: [u32; 4] = [2, 16, 256, 4096];
 
+/// How many calls a block has, and how many items its vectors.
+const BLOCKS: [u32; 3] = [4, 16, 64];
+
+const BLOCK_ITEMS: [u32; 3] = [2, 16, 256];
+
 /// How many times each row is measured.
 const REPEATS: u32 = 3;
 
-/// The loads, in the order of their rows: all callers call, some among many that do not, and one calls by steps.
+/// The loads, in the order of their rows: all callers call, some among many that do not, one calls by steps,
+/// and all call in blocks.
 fn loads(alloc: Global) -> Result<Vec<Load>, AllocError> {
     let mut loads = Vec::new(alloc);
     for items in ITEMS {
@@ -32,6 +38,13 @@ fn loads(alloc: Global) -> Result<Vec<Load>, AllocError> {
         Load::of(1, 2).by_steps(),
         Load::of(1, 16).by_steps(),
     ])?;
+    for size in BLOCKS {
+        for items in BLOCK_ITEMS {
+            for threads in THREADS {
+                loads.push(Load::of(threads, items).in_blocks(size))?;
+            }
+        }
+    }
     Ok(loads)
 }
 
@@ -43,7 +56,7 @@ fn rate(load: Load, all: &[Times]) -> f64 {
         begin = begin.min(times.first().copied().unwrap_or(0));
         end = end.max(times.last().copied().unwrap_or(u32::MAX));
     }
-    let calls = f64::from(load.calls()) * f64::from(load.threads);
+    let calls = f64::from(load.turns()) * f64::from(load.size()) * f64::from(load.threads);
     calls * 1_000_000_000.0 / f64::from(end.saturating_sub(begin).max(1))
 }
 

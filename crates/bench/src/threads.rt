@@ -7,7 +7,6 @@ use crate::calls::{call_once, fill};
 use crate::load::Load;
 use crate::operands::name;
 use combiner::{Caller, Shared};
-use cvl_text::{Call, Z2};
 use std::alloc::Global;
 use std::rt::Clock;
 use std::sync::Wait;
@@ -45,16 +44,10 @@ fn work<R: Clock + Threads + Wait + Sync>(
     fill(rt, alloc, shared, caller, load.items)?;
     let number = caller.number() as u64;
     let (x, y) = (name(b'x', number)?, name(b'y', number)?);
-    let mut times = Vec::with_capacity(alloc, load.calls() as usize + 2).ok()?;
+    let mut times = Vec::with_capacity(alloc, load.turns() as usize + 2).ok()?;
     times.push(since(rt, then)).ok()?;
-    for _ in 0..load.calls() {
-        let call = Call::MapZ2 {
-            to: x,
-            op: Z2::Add,
-            a: x,
-            b: y,
-        };
-        call_once(rt, alloc, shared, caller, load.way, call)?;
+    for _ in 0..load.turns() {
+        call_once(rt, alloc, shared, caller, load.way, x, y)?;
         if each {
             times.push(since(rt, then)).ok()?;
         }

@@ -1,5 +1,5 @@
 -- What a history has of its callers, as it grows.
-use Rattle.std.proofs.Common.{◌⊎◌, inl, inr, ◌≡◌, ◌≢◌, ◌==◌, ℕ, zero, suc, ◌+◌, ◌<◌, ◌≤◌, Bool, true, false, cond, List, [], ◌∷◌, ◌++◌, map, length, slice_index, slice_set, refl, sym, ap, ◌∙◌, arith, append-nil, length-append, add-zero, eq-eqb, ne_eqb}
+use Rattle.std.proofs.Common.{inl, inr, ◌≡◌, ◌≢◌, ◌==◌, ℕ, zero, suc, ◌+◌, ◌<◌, ◌≤◌, Bool, true, false, cond, List, [], ◌∷◌, ◌++◌, map, length, slice_index, slice_set, refl, sym, ap, ◌∙◌, arith, append-nil, length-append, add-zero, eq-eqb, ne_eqb}
 use Rattle.std.specs.List.{range_with_len}
 use Rattle.std.proofs.lemmas.List.{map-append, length-map, get_or-set_same, get_or-set_other}
 use Rattle.std.proofs.lemmas.List.Elements.{filter-append}
@@ -105,17 +105,3 @@ calls_stay k xs ys own extra p has whole =
 pub calls_between : (k : ℕ) (xs ys zs : List Entry) (own : List Call) → Begins xs ys → Begins ys zs → calls_by k xs ≡ own → calls_by k zs ≡ own → calls_by k ys ≡ own
 calls_between k xs ys zs own p q low high =
     calls_stay k ys zs own (calls_by k p.0) q (ap (calls_by k) p.1 ∙ (calls_by-append k xs p.0 ∙ ap (λ l. l ++ calls_by k p.0) low)) high
-
--- where a caller has one more call in the whole, what is between has that call or not
-pub calls_split : (k : ℕ) (xs ys zs : List Entry) (own calls : List Call) → Begins xs ys → Begins ys zs → calls_by k xs ≡ own → calls_by k zs ≡ own ++ calls → length calls ≡ 1
-    → (calls_by k ys ≡ own) ⊎ (calls_by k ys ≡ own ++ calls)
-calls_split k xs ys zs own calls p q low high one =
-    go (calls_by k p.0) (ap (calls_by k) p.1 ∙ (calls_by-append k xs p.0 ∙ ap (λ l. l ++ calls_by k p.0) low)) (calls_by k q.0)
-    (sym (ap (λ l. calls_by k l) q.1 ∙ calls_by-append k ys q.0) ∙ high)
-  where
-    go : (added : List Call) → calls_by k ys ≡ own ++ added → (later : List Call) → calls_by k ys ++ later ≡ own ++ calls → (calls_by k ys ≡ own) ⊎ (calls_by k ys ≡ own ++ calls)
-    go [] mid later end = inl (mid ∙ append-nil own)
-    go (x ∷ xs) mid later end =
-        let middle : length (calls_by k ys) ≡ length own + length (x ∷ xs) = ap length mid ∙ length-append own (x ∷ xs) in
-        let sizes : length (calls_by k ys) + length later ≡ length own + length calls = sym (length-append (calls_by k ys) later) ∙ (ap length end ∙ length-append own calls) in
-        inr (sym (append-nil (calls_by k ys)) ∙ (ap (λ l. calls_by k ys ++ l) (sym (empty_by_length later (omega arith))) ∙ end))

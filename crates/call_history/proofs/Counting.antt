@@ -1,5 +1,5 @@
 -- What a run counts is what its step counted, whatever it answers.
-use Rattle.std.proofs.Common.{◌≡◌, Bool, true, false, Result, Ok, Err, refl, inl}
+use Rattle.std.proofs.Common.{Bool, true, false, Ok, Err, refl, inl}
 use Rattle.scan_kernels.specs.Metering.{Metered}
 use Rattle.cvl_calls.specs.Steps.{CountsStep}
 

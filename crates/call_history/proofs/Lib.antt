@@ -1,6 +1,10 @@
 pub mod Beginnings
 pub mod Counting
 pub mod CallerLemmas
+pub mod Outside
+pub mod Blocks
+pub mod Rises
+pub mod BlockRuns
 pub mod Replays
 pub mod Serving
 pub mod InPlace

@@ -1,15 +1,11 @@
 -- A replay goes call by call, and keeps the room and the limit.
-use Rattle.std.proofs.Common.{◌≡◌, ℕ, suc, length, slice_get, List, [], ◌∷◌, ◌++◌, Option, Some, None, Result, Ok, Err, refl, sym, ap, ◌∙◌}
+use Rattle.std.proofs.Common.{◌≡◌, ℕ, suc, length, slice_get, List, [], ◌∷◌, ◌++◌, Option, Some, None, refl, sym, ap, ◌∙◌}
 use Rattle.vector_memory.specs.declared.name.Name.{Name}
-use Rattle.vector_memory.specs.declared.memory.StoreFault.{StoreFault}
-use Rattle.vector_memory.specs.declared.memory.StoreFault.TheVariants.{NoRoom, TooManyNames, OutOfMemory}
 use Rattle.vector_memory.specs.Contents.{Content}
-use Rattle.vector_memory.specs.States.{State, empty, refusal, put, without}
-use Rattle.cvl_text.specs.declared.fault.Fault.{Fault}
-use Rattle.cvl_text.specs.Tasks.{Task, task_of, target}
-use Rattle.cvl_calls.specs.Outcomes.{Effect, Stores, Frees, Answers, operands_of}
-use Rattle.cvl_calls.specs.Steps.{refused, applied, followed, stepped}
-use Rattle.cvl_calls.specs.Work.{work}
+use Rattle.vector_memory.specs.States.{State, empty, put, without}
+use Rattle.cvl_text.specs.Tasks.{task_of}
+use Rattle.cvl_calls.specs.Steps.{stepped}
+use Rattle.cvl_calls.proofs.BlockSteps.{room-stepped, stepped-keeps}
 use Rattle.call_history.specs.declared.entry.Entry.{Entry}
 use Rattle.std.specs.List.{last_or}
 use Rattle.cvl_text.specs.Answers.{Answer}
@@ -19,35 +15,11 @@ pub replay_from-append : (m : State) (xs ys : List Entry) → replay_from m (xs 
 replay_from-append m [] ys = refl
 replay_from-append m (x ∷ xs) ys = replay_from-append (stepped m (task_of x.call)).memory xs ys
 
--- what a store and a freed name leave as it is, a step does too
+-- what a store and a freed name leave as it is, a replay does too
 module _ {X : Type 0} (part : State → X) (put-keeps : (m : State) (n : Name) (v : Content) → part (put m n v) ≡ part m) (without-keeps : (m : State) (n : Name) → part (without m n) ≡ part m) where
-  refused-keeps : (m stored : State) (why : Option StoreFault) → part stored ≡ part m → part (refused m why stored).memory ≡ part m
-  refused-keeps m stored None same = same
-  refused-keeps m stored (Some NoRoom) same = refl
-  refused-keeps m stored (Some TooManyNames) same = refl
-  refused-keeps m stored (Some OutOfMemory) same = refl
-
-  applied-keeps : (m : State) (to : Option Name) (effect : Effect) → part (applied m to effect).memory ≡ part m
-  applied-keeps m None (Answers a) = refl
-  applied-keeps m (Some n) (Answers a) = refl
-  applied-keeps m (Some n) (Stores v) = refused-keeps m (put m n v) (refusal m n v) (put-keeps m n v)
-  applied-keeps m None (Stores v) = refl
-  applied-keeps m (Some n) Frees = without-keeps m n
-  applied-keeps m None Frees = refl
-
-  followed-keeps : (m : State) (to : Option Name) (worked : Result Effect Fault) → part (followed m to worked).memory ≡ part m
-  followed-keeps m to (Ok effect) = applied-keeps m to effect
-  followed-keeps m to (Err fault) = refl
-
-  stepped-keeps : (m : State) (t : Task) → part (stepped m t).memory ≡ part m
-  stepped-keeps m t = followed-keeps m (target t) (work m.limit t.word (operands_of m t.arguments))
-
   replay_from-keeps : (m : State) (history : List Entry) → part (replay_from m history) ≡ part m
   replay_from-keeps m [] = refl
-  replay_from-keeps m (e ∷ es) = replay_from-keeps (stepped m (task_of e.call)).memory es ∙ stepped-keeps m (task_of e.call)
-
-pub room-stepped : (m : State) (t : Task) → (stepped m t).memory.room ≡ m.room
-room-stepped = stepped-keeps (λ m. m.room) (λ m n v. refl) (λ m n. refl)
+  replay_from-keeps m (e ∷ es) = replay_from-keeps (stepped m (task_of e.call)).memory es ∙ stepped-keeps part put-keeps without-keeps m (task_of e.call)
 
 pub room-replay_from : (m : State) (history : List Entry) → (replay_from m history).room ≡ m.room
 room-replay_from = replay_from-keeps (λ m. m.room) (λ m n v. refl) (λ m n. refl)

@@ -1,54 +1,62 @@
--- A batch grows by one call at a time, and answers the callers that it serves.
-use Rattle.std.proofs.Common.{◌≡◌, ◌≢◌, ◌==◌, ℕ, ◌+◌, ◌≤◌, Bool, true, false, cond, List, [], ◌∷◌, ◌++◌, map, length, take, drop, Option, Some, None, refl, sym, ap, ◌∙◌, subst, arith, append_assoc, append-nil, length-append, length-drop, length-take, take-add, take-append-drop, eq-eqb, ne_eqb}
+-- A batch grows by one job at a time, and answers the callers that it serves.
+use Rattle.std.proofs.Common.{◌≡◌, ◌≢◌, ◌==◌, ℕ, ◌+◌, ◌≤◌, Bool, true, false, cond, List, [], ◌∷◌, ◌++◌, length, take, drop, Option, Some, None, refl, sym, ap, ◌∙◌, subst, arith, append_assoc, append-nil, length-append, length-drop, length-take, take-add, take-append-drop, eq-eqb, ne_eqb}
+use Rattle.std.specs.List.{AllByRecursion}
 use Rattle.std.proofs.Math.Seq.{take-append_seam, drop-append_seam}
 use Rattle.std.proofs.lemmas.List.{take-append-le, drop-append-le}
 use mathlib.Core.Logic.{dite}
 use native.Mathlib.Decide.{ℕ_discrete}
 use Rattle.cvl_text.specs.declared.call.Call.{Call}
-use Rattle.cvl_text.specs.declared.reply.Reply.{Reply}
-use Rattle.cvl_text.specs.Answers.{Answer, answer_of}
+use Rattle.cvl_text.specs.Answers.{Answer}
 use Rattle.call_history.specs.declared.entry.Entry.{Entry}
+use Rattle.call_history.specs.declared.request.Job.{Job}
+use Rattle.call_history.specs.declared.request.Job.TheVariants.{One, Many}
 use Rattle.call_history.specs.declared.request.Request.{Request}
 use Rattle.call_history.specs.declared.request.Outcome.{Outcome}
-use Rattle.call_history.specs.declared.request.Outcome.TheVariants.{Answered, Refused}
-use Rattle.call_history.specs.History.{replay, replies_from, reply_after, entry, call_of, Begins}
+use Rattle.call_history.specs.History.{replay, replies_from, Begins}
 use Rattle.call_history.specs.Callers.{calls_by}
+use Rattle.call_history.specs.Blocks.{Whole, block_entries}
 use Rattle.call_history.specs.Answers.{Answers}
-use Rattle.call_history.specs.Fits.{request, asked_by, Fate, StandsAt, CameBack, fate_of, request_by, outcome_by, block_at, Serves, FitsFate, FitsCaller, Fits}
+use Rattle.call_history.specs.Fits.{request, calls_of, IsLawfulJob, Fate, StandsAt, CameBack, fate_of, IsOfJob, handed_back, request_by, outcome_by, block_at, Serves, FitsFate, FitsCaller, Fits}
 use Rattle.call_history.proofs.Beginnings.{begins_self, begins_trans, begins_length, begins_shorter, take_begins}
-use Rattle.call_history.proofs.CallerLemmas.{calls_by-append, calls_by-own, calls_by-other, middle_alone}
+use Rattle.call_history.proofs.Blocks.{Whole-grown, calls_by-block, calls_by-block_other, length-block}
+use Rattle.call_history.proofs.CallerLemmas.{calls_by-append, middle_alone}
 
 -- a request that was not there is found once it is put last, and the others are found as before
-pub request_by-push : (k : ℕ) (rs : List Request) (call : Call) → request_by k rs ≡ None → request_by k (rs ++ request k call ∷ []) ≡ Some (call ∷ [])
-request_by-push k [] call e = ap (λ b. cond {A = Option (List Call)} b (Some (call ∷ [])) None) (eq-eqb k k refl)
-request_by-push k (r ∷ rs) call e = go (r.caller == k) (request_by-push k rs call) e
+pub request_by-push : (k : ℕ) (rs : List Request) (job : Job) → request_by k rs ≡ None → request_by k (rs ++ request k job ∷ []) ≡ Some job
+request_by-push k [] job e = ap (λ b. cond {A = Option Job} b (Some job) None) (eq-eqb k k refl)
+request_by-push k (r ∷ rs) job e = go (r.caller == k) (request_by-push k rs job) e
   where
-    go : (b : Bool) → (request_by k rs ≡ None → request_by k (rs ++ request k call ∷ []) ≡ Some (call ∷ [])) → cond {A = Option (List Call)} b (Some (asked_by r)) (request_by k rs) ≡ None
-        → cond {A = Option (List Call)} b (Some (asked_by r)) (request_by k (rs ++ request k call ∷ [])) ≡ Some (call ∷ [])
+    go : (b : Bool) → (request_by k rs ≡ None → request_by k (rs ++ request k job ∷ []) ≡ Some job) → cond {A = Option Job} b (Some r.job) (request_by k rs) ≡ None
+        → cond {A = Option Job} b (Some r.job) (request_by k (rs ++ request k job ∷ [])) ≡ Some job
     go true later e = absurd (cc e)
     go false later e = later e
 
-pub request_by-push_else : (k i : ℕ) (rs : List Request) (call : Call) → k ≢ i → request_by k (rs ++ request i call ∷ []) ≡ request_by k rs
-request_by-push_else k i [] call other = ap (λ b. cond {A = Option (List Call)} b (Some (call ∷ [])) None) (ne_eqb i k (λ e. other (sym e)))
-request_by-push_else k i (r ∷ rs) call other = ap (cond {A = Option (List Call)} (r.caller == k) (Some (asked_by r))) (request_by-push_else k i rs call other)
+pub request_by-push_else : (k i : ℕ) (rs : List Request) (job : Job) → k ≢ i → request_by k (rs ++ request i job ∷ []) ≡ request_by k rs
+request_by-push_else k i [] job other = ap (λ b. cond {A = Option Job} b (Some job) None) (ne_eqb i k (λ e. other (sym e)))
+request_by-push_else k i (r ∷ rs) job other = ap (cond {A = Option Job} (r.caller == k) (Some r.job)) (request_by-push_else k i rs job other)
 
 -- and so is its outcome
-outcome_by-push : (k : ℕ) (rs : List Request) (os : List Outcome) (call : Call) (o : Outcome) → length os ≡ length rs → request_by k rs ≡ None → outcome_by k (rs ++ request k call ∷ []) (os ++ o ∷ []) ≡ Some o
-outcome_by-push k [] [] call o same e = ap (λ b. cond {A = Option Outcome} b (Some o) None) (eq-eqb k k refl)
-outcome_by-push k [] (x ∷ os) call o same e = absurd (omega arith)
-outcome_by-push k (r ∷ rs) [] call o same e = absurd (omega arith)
-outcome_by-push k (r ∷ rs) (x ∷ os) call o same e = go (r.caller == k) (outcome_by-push k rs os call o (omega arith)) e
+outcome_by-push : (k : ℕ) (rs : List Request) (os : List Outcome) (job : Job) (o : Outcome) → length os ≡ length rs → request_by k rs ≡ None → outcome_by k (rs ++ request k job ∷ []) (os ++ o ∷ []) ≡ Some o
+outcome_by-push k [] [] job o same e = ap (λ b. cond {A = Option Outcome} b (Some o) None) (eq-eqb k k refl)
+outcome_by-push k [] (x ∷ os) job o same e = absurd (omega arith)
+outcome_by-push k (r ∷ rs) [] job o same e = absurd (omega arith)
+outcome_by-push k (r ∷ rs) (x ∷ os) job o same e = go (r.caller == k) (outcome_by-push k rs os job o (omega arith)) e
   where
-    go : (b : Bool) → (request_by k rs ≡ None → outcome_by k (rs ++ request k call ∷ []) (os ++ o ∷ []) ≡ Some o) → cond {A = Option (List Call)} b (Some (asked_by r)) (request_by k rs) ≡ None
-        → cond {A = Option Outcome} b (Some x) (outcome_by k (rs ++ request k call ∷ []) (os ++ o ∷ [])) ≡ Some o
+    go : (b : Bool) → (request_by k rs ≡ None → outcome_by k (rs ++ request k job ∷ []) (os ++ o ∷ []) ≡ Some o) → cond {A = Option Job} b (Some r.job) (request_by k rs) ≡ None
+        → cond {A = Option Outcome} b (Some x) (outcome_by k (rs ++ request k job ∷ []) (os ++ o ∷ [])) ≡ Some o
     go true later e = absurd (cc e)
     go false later e = later e
 
-outcome_by-push_else : (k i : ℕ) (rs : List Request) (os : List Outcome) (call : Call) (o : Outcome) → length os ≡ length rs → k ≢ i → outcome_by k (rs ++ request i call ∷ []) (os ++ o ∷ []) ≡ outcome_by k rs os
-outcome_by-push_else k i [] [] call o same other = ap (λ b. cond {A = Option Outcome} b (Some o) None) (ne_eqb i k (λ e. other (sym e)))
-outcome_by-push_else k i [] (x ∷ os) call o same other = absurd (omega arith)
-outcome_by-push_else k i (r ∷ rs) [] call o same other = absurd (omega arith)
-outcome_by-push_else k i (r ∷ rs) (x ∷ os) call o same other = ap (cond {A = Option Outcome} (r.caller == k) (Some x)) (outcome_by-push_else k i rs os call o (omega arith) other)
+outcome_by-push_else : (k i : ℕ) (rs : List Request) (os : List Outcome) (job : Job) (o : Outcome) → length os ≡ length rs → k ≢ i → outcome_by k (rs ++ request i job ∷ []) (os ++ o ∷ []) ≡ outcome_by k rs os
+outcome_by-push_else k i [] [] job o same other = ap (λ b. cond {A = Option Outcome} b (Some o) None) (ne_eqb i k (λ e. other (sym e)))
+outcome_by-push_else k i [] (x ∷ os) job o same other = absurd (omega arith)
+outcome_by-push_else k i (r ∷ rs) [] job o same other = absurd (omega arith)
+outcome_by-push_else k i (r ∷ rs) (x ∷ os) job o same other = ap (cond {A = Option Outcome} (r.caller == k) (Some x)) (outcome_by-push_else k i rs os job o (omega arith) other)
+
+-- one more job that may be asked for
+pub lawful-push : (rs : List Request) (r : Request) → AllByRecursion (λ q. IsLawfulJob q.job) rs → IsLawfulJob r.job → AllByRecursion (λ q. IsLawfulJob q.job) (rs ++ r ∷ [])
+lawful-push [] r all lawful = (lawful, tt)
+lawful-push (q ∷ rs) r all lawful = (all.0, lawful-push rs r all.1 lawful)
 
 block_grown : (mid more : List Entry) (place n : ℕ) → place + n ≤ length mid → block_at (mid ++ more) place n ≡ block_at mid place n
 block_grown mid more place n le =
@@ -60,65 +68,101 @@ serves_grown : (room : ℕ) (old mid more : List Entry) (k : ℕ) (calls : List 
 serves_grown room old mid more k calls place replies s =
     let within = s.within in
     let first : place ≤ length mid = omega arith in
-    let block = block_grown mid more place (length calls) s.within in
+    let before : take place (mid ++ more) ≡ take place mid = take-append-le place mid more first in
     record {
       added = s.added;
       within = omega (arith, length-append mid more);
-      calls_are = ap (map call_of) block ∙ s.calls_are;
-      of_caller = ap (calls_by k) block ∙ s.of_caller;
-      replies_are = subst (λ (z : List Entry × (List Entry)). replies_from (replay room z.0) z.1 ≡ replies) (λ i. (sym (take-append-le place mid more first) i, sym block i)) s.replies_are;
+      entries_are = block_grown mid more place (length calls) s.within ∙ s.entries_are ∙ ap (λ (l : List Entry). block_entries l k calls) (sym before);
+      whole = subst Whole (sym (take-append-le (place + length calls) mid more s.within)) s.whole;
+      replies_are = ap (λ (l : List Entry). replies_from (replay room l) (block_entries l k calls)) before ∙ s.replies_are;
     }
 
 fate_grown : (room : ℕ) (old mid more : List Entry) (k : ℕ) (calls : List Call) (fate : Fate) → calls_by k (mid ++ more) ≡ calls_by k mid → FitsFate room old mid k calls fate → FitsFate room old (mid ++ more) k calls fate
 fate_grown room old mid more k calls (StandsAt place replies) same f = (same ∙ f.0, serves_grown room old mid more k calls place replies f.1)
 fate_grown room old mid more k calls (CameBack back) same f = (same ∙ f.0, f.1)
 
-pub caller_grown : (room : ℕ) (old mid more : List Entry) (k : ℕ) (asked : Option (List Call)) (o : Option Outcome) → calls_by k (mid ++ more) ≡ calls_by k mid → FitsCaller room old mid k asked o → FitsCaller room old (mid ++ more) k asked o
+pub caller_grown : (room : ℕ) (old mid more : List Entry) (k : ℕ) (asked : Option Job) (o : Option Outcome) → calls_by k (mid ++ more) ≡ calls_by k mid → FitsCaller room old mid k asked o → FitsCaller room old (mid ++ more) k asked o
 caller_grown room old mid more k None o same f = same ∙ f
-caller_grown room old mid more k (Some calls) o same f = (f.0, f.1, fate_grown room old mid more k calls (fate_of f.0) same f.2)
+caller_grown room old mid more k (Some job) o same f = (f.0, f.1, f.2, fate_grown room old mid more k (calls_of job) (fate_of f.0) same f.3)
 
 pub fits_nothing : (room : ℕ) (history : List Entry) → Fits room history [] history []
 fits_nothing room history = record { grows = begins_self history; each = λ k. refl }
 
+-- a job that is back is one of its kind
+pub back-of_job : (job : Job) → IsOfJob job (handed_back job)
+back-of_job (One call) = tt
+back-of_job (Many calls) = tt
+
+pub back-fate : (job : Job) → fate_of (handed_back job) ≡ CameBack (calls_of job)
+back-fate (One call) = refl
+back-fate (Many calls) = refl
+
+-- a job that is back changed nothing
+pub back-fits : (room : ℕ) (old new : List Entry) (k : ℕ) (job : Job) → calls_by k new ≡ calls_by k old → FitsFate room old new k (calls_of job) (fate_of (handed_back job))
+back-fits room old new k (One call) had = (had, refl)
+back-fits room old new k (Many calls) had = (had, refl)
+
+-- a job that is answered behind a history stands there
+pub stands-behind : (room : ℕ) (old mid : List Entry) (k : ℕ) (calls : List Call) → Begins old mid → Whole mid → calls_by k mid ≡ calls_by k old
+    → FitsFate room old (mid ++ block_entries mid k calls) k calls (StandsAt (length mid) (replies_from (replay room mid) (block_entries mid k calls)))
+stands-behind room old mid k calls grows whole had =
+    let more : List Entry = block_entries mid k calls in
+    let count : length more ≡ length calls = length-block mid k calls in
+    let size : length (mid ++ more) ≡ length mid + length calls = length-append mid more ∙ ap (λ (n : ℕ). length mid + n) count in
+    let first : take (length mid) (mid ++ more) ≡ mid = take-append_seam mid more in
+    let all : take (length mid + length calls) (mid ++ more) ≡ mid ++ more = ap (λ (n : ℕ). take n (mid ++ more)) (sym size) ∙ take-all (mid ++ more) in
+    let there : block_at (mid ++ more) (length mid) (length calls) ≡ more =
+    ap (take (length calls)) (drop-append_seam mid more) ∙ (ap (λ (n : ℕ). take n more) (sym count) ∙ take-all more) in (
+      calls_by-append k mid more ∙ (ap (λ l. l ++ calls_by k more) had ∙ ap (λ l. calls_by k old ++ l) (calls_by-block k mid calls)),
+      record {
+        added = begins_length old mid grows;
+        within = omega (arith, size);
+        entries_are = there ∙ ap (λ (l : List Entry). block_entries l k calls) (sym first);
+        whole = subst Whole (sym all) (Whole-grown mid k calls whole);
+        replies_are = ap (λ (l : List Entry). replies_from (replay room l) (block_entries l k calls)) first;
+      },
+    )
+  where
+    take-all : (xs : List Entry) → take (length xs) xs ≡ xs
+    take-all [] = refl
+    take-all (x ∷ xs) = ap (λ (l : List Entry). x ∷ l) (take-all xs)
+
+-- the calls of the others stay
+pub others-behind : (mid : List Entry) (j k : ℕ) (calls : List Call) → k ≢ j → calls_by j (mid ++ block_entries mid k calls) ≡ calls_by j mid
+others-behind mid j k calls other =
+    calls_by-append j mid (block_entries mid k calls) ∙ (ap (λ l. calls_by j mid ++ l) (calls_by-block_other j k other mid calls) ∙ append-nil (calls_by j mid))
+
 -- the outcome of a request that is put last
-fits_pushed : (room : ℕ) (old new : List Entry) (rs : List Request) (os : List Outcome) (k : ℕ) (call : Call) (o : Outcome) → length os ≡ length rs → request_by k rs ≡ None → FitsFate room old new k (call ∷ []) (fate_of o)
-    → ((j : ℕ) → j ≢ k → FitsCaller room old new j (request_by j rs) (outcome_by j rs os)) → (j : ℕ) → FitsCaller room old new j (request_by j (rs ++ request k call ∷ [])) (outcome_by j (rs ++ request k call ∷ []) (os ++ o ∷ []))
-fits_pushed room old new rs os k call o same fresh mine others j = dite (ℕ_discrete j k)
-    (λ is. subst (λ (z : ℕ). FitsCaller room old new z (request_by z (rs ++ request k call ∷ [])) (outcome_by z (rs ++ request k call ∷ []) (os ++ o ∷ []))) (sym is)
-    (subst (λ (q : Option (List Call)). FitsCaller room old new k q (outcome_by k (rs ++ request k call ∷ []) (os ++ o ∷ []))) (sym (request_by-push k rs call fresh)) (o, outcome_by-push k rs os call o same fresh, mine)))
-    (λ other. subst (λ (z : Option (List Call) × (Option Outcome)). FitsCaller room old new j z.0 z.1) (λ i. (sym (request_by-push_else j k rs call other) i, sym (outcome_by-push_else j k rs os call o same other) i)) (others j other))
+fits_pushed : (room : ℕ) (old new : List Entry) (rs : List Request) (os : List Outcome) (k : ℕ) (job : Job) (o : Outcome) → length os ≡ length rs → request_by k rs ≡ None → IsOfJob job o
+    → FitsFate room old new k (calls_of job) (fate_of o) → ((j : ℕ) → j ≢ k → FitsCaller room old new j (request_by j rs) (outcome_by j rs os))
+    → (j : ℕ) → FitsCaller room old new j (request_by j (rs ++ request k job ∷ [])) (outcome_by j (rs ++ request k job ∷ []) (os ++ o ∷ []))
+fits_pushed room old new rs os k job o same fresh kind mine others j = dite (ℕ_discrete j k)
+    (λ is. subst (λ (z : ℕ). FitsCaller room old new z (request_by z (rs ++ request k job ∷ [])) (outcome_by z (rs ++ request k job ∷ []) (os ++ o ∷ []))) (sym is)
+    (subst (λ (q : Option Job). FitsCaller room old new k q (outcome_by k (rs ++ request k job ∷ []) (os ++ o ∷ []))) (sym (request_by-push k rs job fresh)) (o, outcome_by-push k rs os job o same fresh, kind, mine)))
+    (λ other. subst (λ (z : Option Job × (Option Outcome)). FitsCaller room old new j z.0 z.1) (λ i. (sym (request_by-push_else j k rs job other) i, sym (outcome_by-push_else j k rs os job o same other) i)) (others j other))
 
 -- a request that is refused changes nothing
-pub fits_refused : (room : ℕ) (old mid : List Entry) (rs : List Request) (os : List Outcome) (k : ℕ) (call : Call) → length os ≡ length rs → request_by k rs ≡ None → Fits room old rs mid os
-    → Fits room old (rs ++ request k call ∷ []) mid (os ++ Refused call ∷ [])
-fits_refused room old mid rs os k call same fresh f = record {
-  grows = f.grows;
-  each = fits_pushed room old mid rs os k call (Refused call) same fresh (subst (λ (q : Option (List Call)). FitsCaller room old mid k q (outcome_by k rs os)) fresh (f.each k), refl) (λ j other. f.each j);
-}
+pub fits_refused : (room : ℕ) (old mid : List Entry) (rs : List Request) (os : List Outcome) (k : ℕ) (job : Job) → length os ≡ length rs → request_by k rs ≡ None → Fits room old rs mid os
+    → Fits room old (rs ++ request k job ∷ []) mid (os ++ handed_back job ∷ [])
+fits_refused room old mid rs os k job same fresh f =
+    let had : calls_by k mid ≡ calls_by k old = subst (λ (q : Option Job). FitsCaller room old mid k q (outcome_by k rs os)) fresh (f.each k) in
+    record {
+      grows = f.grows;
+      each = fits_pushed room old mid rs os k job (handed_back job) same fresh (back-of_job job) (back-fits room old mid k job had) (λ j other. f.each j);
+    }
 
--- a request that is answered becomes the last entry
-pub fits_answered : (room : ℕ) (old mid : List Entry) (rs : List Request) (os : List Outcome) (k ticket : ℕ) (call : Call) (reply : Reply) → length os ≡ length rs → request_by k rs ≡ None → answer_of reply ≡ reply_after room mid call
-    → Fits room old rs mid os → Fits room old (rs ++ request k call ∷ []) (mid ++ entry k ticket call ∷ []) (os ++ Answered (length mid) reply ∷ [])
-fits_answered room old mid rs os k ticket call reply same fresh replies f =
-    let more : List Entry = entry k ticket call ∷ [] in
-    let mine : calls_by k more ≡ call ∷ [] = calls_by-own k ticket call in
-    let had : calls_by k mid ≡ calls_by k old = subst (λ (q : Option (List Call)). FitsCaller room old mid k q (outcome_by k rs os)) fresh (f.each k) in
-    let long = begins_length old mid f.grows in
-    let block : block_at (mid ++ more) (length mid) 1 ≡ more = ap (take 1) (drop-append_seam mid more) in
+-- the calls of a request that is answered become the last entries
+pub fits_answered : (room : ℕ) (old mid : List Entry) (rs : List Request) (os : List Outcome) (k : ℕ) (job : Job) (o : Outcome) → length os ≡ length rs → request_by k rs ≡ None → IsOfJob job o
+    → fate_of o ≡ StandsAt (length mid) (replies_from (replay room mid) (block_entries mid k (calls_of job))) → Whole mid
+    → Fits room old rs mid os → Fits room old (rs ++ request k job ∷ []) (mid ++ block_entries mid k (calls_of job)) (os ++ o ∷ [])
+fits_answered room old mid rs os k job o same fresh kind fate whole f =
+    let more : List Entry = block_entries mid k (calls_of job) in
+    let had : calls_by k mid ≡ calls_by k old = subst (λ (q : Option Job). FitsCaller room old mid k q (outcome_by k rs os)) fresh (f.each k) in
     record {
       grows = begins_trans old mid (mid ++ more) f.grows (more, refl);
-      each = fits_pushed room old (mid ++ more) rs os k call (Answered (length mid) reply) same fresh (
-        calls_by-append k mid more ∙ (ap (λ l. l ++ calls_by k more) had ∙ ap (λ l. calls_by k old ++ l) mine),
-        record {
-          added = long;
-          within = omega (arith, length-append mid more);
-          calls_are = ap (map call_of) block;
-          of_caller = ap (calls_by k) block ∙ mine;
-          replies_are = subst (λ (z : List Entry × (List Entry)). replies_from (replay room z.0) z.1 ≡ answer_of reply ∷ []) (λ i. (sym (take-append_seam mid more) i, sym block i)) (ap (λ (z : Answer). z ∷ []) (sym replies));
-        },
-      )
-          (λ j other. caller_grown room old mid more j (request_by j rs) (outcome_by j rs os)
-          (calls_by-append j mid more ∙ (ap (λ l. calls_by j mid ++ l) (calls_by-other j k ticket call (λ e. other (sym e))) ∙ append-nil (calls_by j mid))) (f.each j));
+      each = fits_pushed room old (mid ++ more) rs os k job o same fresh kind
+          (subst (FitsFate room old (mid ++ more) k (calls_of job)) (sym fate) (stands-behind room old mid k (calls_of job) f.grows whole had))
+          (λ j other. caller_grown room old mid more j (request_by j rs) (outcome_by j rs os) (others-behind mid j k (calls_of job) (λ e. other (sym e))) (f.each j));
     }
 
 -- calls that a batch answered are answered at their own place, for a caller that had seen no more than the history before the batch
@@ -128,6 +172,7 @@ pub answers-from_serves : (room : ℕ) (seen old new : List Entry) (own : List C
 answers-from_serves room seen old new own k calls place replies saw grew had has s =
     let m : ℕ = place + length calls in
     let block : List Entry = block_at new place (length calls) in
+    let of_caller : calls_by k block ≡ calls = ap (calls_by k) s.entries_are ∙ calls_by-block k (take place new) calls in
     let within : place + length calls ≤ length new = s.within in
     let added : length old ≤ place = s.added in
     let longer : length old ≤ length (take place new) = omega (arith, length-take place new) in
@@ -139,33 +184,15 @@ answers-from_serves room seen old new own k calls place replies saw grew had has
     ap (calls_by k) middle.1 ∙ (calls_by-append k old middle.0 ∙ ap (λ l. l ++ between) had) in
     let up_to : calls_by k (take m new) ≡ own ++ (between ++ calls) =
     ap (calls_by k) parts ∙ (calls_by-append k (take place new) block ∙ (ap (λ l. l ++ calls_by k block) early
-    ∙ (append_assoc own between (calls_by k block) ∙ ap (λ l. own ++ (between ++ l)) s.of_caller))) in
+    ∙ (append_assoc own between (calls_by k block) ∙ ap (λ l. own ++ (between ++ l)) of_caller))) in
     let all : own ++ (between ++ (calls ++ rest)) ≡ own ++ calls =
     ap (λ l. own ++ l) (sym (append_assoc between calls rest)) ∙ (sym (append_assoc own (between ++ calls) rest) ∙ (ap (λ l. l ++ rest) (sym up_to)
     ∙ (sym (calls_by-append k (take m new) (drop m new)) ∙ (ap (calls_by k) (take-append-drop m new) ∙ has)))) in
     record {
       before = take place new;
-      block = block;
       begins = begins_trans seen old (take m new) saw (begins_trans old (take place new) (take m new) middle (block, parts));
-      ends = parts;
-      calls_are = s.calls_are;
-      of_caller = s.of_caller;
+      ends = parts ∙ ap (λ (l : List Entry). take place new ++ l) s.entries_are;
+      whole = s.whole;
       owns = up_to ∙ middle_alone own between calls rest all;
       replies_are = s.replies_are;
-    }
-
--- one more call is answered behind the history
-pub answers-from_run : (room : ℕ) (seen history : List Entry) (own : List Call) (k ticket : ℕ) (call : Call) → Begins seen history → calls_by k history ≡ own
-    → Answers room seen own k (call ∷ []) (history ++ entry k ticket call ∷ []) (reply_after room history call ∷ [])
-answers-from_run room seen history own k ticket call saw had =
-    let more : List Entry = entry k ticket call ∷ [] in
-    record {
-      before = history;
-      block = more;
-      begins = begins_trans seen history (history ++ more) saw (more, refl);
-      ends = refl;
-      calls_are = refl;
-      of_caller = calls_by-own k ticket call;
-      owns = calls_by-append k history more ∙ (ap (λ l. l ++ calls_by k more) had ∙ ap (λ l. own ++ l) (calls_by-own k ticket call));
-      replies_are = refl;
     }

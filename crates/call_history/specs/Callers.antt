@@ -3,7 +3,7 @@ use Rattle.std.specs.Prelude.{◌≡◌, ◌==◌, ◌<◌, ℕ, List, length, m
 use Rattle.std.specs.List.{range_with_len, AllByRecursion}
 use Rattle.cvl_text.specs.declared.call.Call.{Call}
 use Rattle.call_history.specs.declared.entry.Entry.{Entry}
-use Rattle.call_history.specs.History.{call_of, entry}
+use Rattle.call_history.specs.History.{call_of, entry_before}
 
 -- callers are numbered from 0
 abbrev pub caller_limit : ℕ
@@ -30,9 +30,13 @@ IsTicketed history = (k : ℕ) → tickets_by k history ≡ range_with_len 0 (le
 abbrev pub HasLawfulCallers : List Entry → Type 0
 HasLawfulCallers history = AllByRecursion (λ e. e.caller < caller_limit) history
 
--- the entry by which a caller's call goes behind a history
+-- the entry by which a caller's call goes behind a history, with so many more of its block to follow
+abbrev pub next_before : List Entry → ℕ → Call → ℕ → Entry
+next_before history caller call rest = entry_before caller (length (calls_by caller history)) call rest
+
+-- the entry of a single call
 abbrev pub next_entry : List Entry → ℕ → Call → Entry
-next_entry history caller call = entry caller (length (calls_by caller history)) call
+next_entry history caller call = next_before history caller call 0
 
 -- the numbers are the next ticket of each caller: how many calls it has
 abbrev pub AreTickets : List ℕ → List Entry → Type 0

@@ -8,8 +8,13 @@ use Rattle.cvl_text.specs.Answers.{Answer}
 use Rattle.cvl_calls.specs.Steps.{stepped}
 use Rattle.call_history.specs.declared.entry.Entry.{Entry}
 
+-- an entry that so many entries of its block follow
+abbrev pub entry_before : ℕ → ℕ → Call → ℕ → Entry
+entry_before caller ticket call rest = record { caller = caller; ticket = ticket; call = call; rest = rest }
+
+-- the entry of a single call
 abbrev pub entry : ℕ → ℕ → Call → Entry
-entry caller ticket call = record { caller = caller; ticket = ticket; call = call }
+entry caller ticket call = entry_before caller ticket call 0
 
 abbrev pub call_of : Entry → Call
 call_of e = e.call

@@ -3,6 +3,7 @@ use Rattle.std.specs.Prelude.{◌≡◌, ◌-◌, vec_len, vec_capacity}
 use Rattle.call_history.specs.declared.book.Book.TheInside.{Inside}
 use Rattle.call_history.specs.Books.{BookState}
 use Rattle.call_history.specs.History.{replay}
+use Rattle.call_history.specs.Blocks.{Whole}
 use Rattle.call_history.specs.Callers.{AreTickets, IsTicketed, HasLawfulCallers}
 
 abbrev pub book_state : Inside → BookState
@@ -13,4 +14,5 @@ pub record KeepsHistory (b : Inside) : Type 0 where
   pub replayed : b.memory ≡ replay b.memory.room b.entries.items
   pub ticketed : IsTicketed b.entries.items
   pub lawful_callers : HasLawfulCallers b.entries.items
+  pub whole : Whole b.entries.items
   pub counted : AreTickets b.tickets.value b.entries.items

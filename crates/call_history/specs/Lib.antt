@@ -1,5 +1,6 @@
 pub mod History
 pub mod Callers
+pub mod Blocks
 pub mod Answers
 pub mod Fits
 pub mod Books

@@ -13,6 +13,7 @@ use std::alloc::Global;
 use vector_memory::{Memory, Name, OutOfMemory, Value};
 
 /// A new memory of this room, after the calls of the entries one by one.
+#[tactic(auto, using(cvl_calls::proofs::BlockSteps::outside_may_change, cvl_calls::proofs::BlockSteps::steps_outside))]
 pub(crate) fn replayed(
     execution: &impl Execution,
     alloc: Global,

@@ -1,15 +1,17 @@
-ghost use Rattle.std.specs.Prelude.{◌≡◌, ◌==◌, ◌+◌, ◌<◌, ◌≤◌, ◌∷◌, ◌++◌, [], length, slice_get, Some, IfOk, IfErr, OnOk, OnErr, IsOk, IsTrue, vec_len, vec_capacity};
-ghost use Rattle.vector_memory.specs.States.{IsLawfulRoom};
+ghost use Rattle.std.specs.Prelude.{◌≡◌, ◌==◌, ◌+◌, ◌<◌, ◌≤◌, ◌∷◌, ◌++◌, [], length, map, slice_get, Some, IfOk, IfErr, OnOk, OnErr, IsOk, IsTrue, vec_len, vec_capacity};
+ghost use Rattle.vector_memory.specs.States.{IsLawfulRoom, MayChange};
 ghost use Rattle.cvl_text.specs.Tasks.{task_of};
 ghost use Rattle.cvl_text.specs.Answers.{answer_of};
 ghost use Rattle.cvl_calls.specs.Steps.{CountsStep, MayLackMemory, runs_on, stepped, work_on};
 ghost use Rattle.cvl_calls.specs.Runs.{TakesNoMemory};
-ghost use Rattle.call_history.specs.History.{reply_after};
+ghost use Rattle.call_history.specs.History.{replies_from, reply_after};
 ghost use Rattle.call_history.specs.Books.{memory_of};
-ghost use Rattle.call_history.specs.Callers.{AreTickets, IsTicketed, HasLawfulCallers, next_entry};
+ghost use Rattle.call_history.specs.Blocks.{RisesBy, Whole, block_entries, block_limit, metered};
+ghost use Rattle.call_history.specs.Callers.{AreTickets, IsTicketed, HasLawfulCallers, next_before, next_entry};
 ghost use Rattle.call_history.specs.Works.{IsWork};
 
 use crate::audit::{holds_the_same, replayed};
+use crate::block::{enter_each, run_each};
 use crate::entry::Entry;
 use crate::work::Work;
 use cvl_calls::{Product, Spare, apply_with, step_with, target};
@@ -22,6 +24,9 @@ use vector_memory::{Memory, OutOfMemory};
 
 /// The greatest number of callers.
 pub const CALLER_LIMIT: usize = 64;
+
+/// The greatest number of calls of a block.
+pub const BLOCK_LIMIT: usize = 1024;
 
 /// A history, and the memory that it leads to.
 #[derive(Drop)]
@@ -46,12 +51,13 @@ impl Model for Book {
     ghost invariant = { KeepsHistory };
 }
 
-/// Writes a call behind the entries, with the caller's next ticket, and answers its place.
-fn enter(
+/// Writes a call behind the entries, with the caller's next ticket and so many more of its block to follow, and answers its place.
+pub(crate) fn enter(
     entries: &mut Vec<Entry>,
     tickets: &mut Box<[u64; CALLER_LIMIT]>,
     caller: u64,
     call: Call,
+    rest: u64,
 ) -> u64
     requires caller { caller < CALLER_LIMIT }
     requires space { vec_len entries.old < vec_capacity entries.old }
@@ -59,7 +65,7 @@ fn enter(
     requires ticketed { IsTicketed entries.old.items }
     requires lawful_callers { HasLawfulCallers entries.old.items }
     ensures place { result ≡ length entries.old.items }
-    ensures items { entries.new.items ≡ entries.old.items ++ next_entry entries.old.items caller call ∷ [] }
+    ensures items { entries.new.items ≡ entries.old.items ++ next_before entries.old.items caller call rest ∷ [] }
     ensures capacity { vec_capacity entries.new ≡ vec_capacity entries.old }
     ensures counted { AreTickets tickets.new.value entries.new.items }
     ensures ticketed { IsTicketed entries.new.items }
@@ -71,6 +77,7 @@ fn enter(
         caller,
         ticket,
         call,
+        rest,
     });
     tickets[caller as usize] = ticket + 1;
     place
@@ -83,7 +90,8 @@ fn done(
     call: &Call,
     work: Work,
 ) -> Result<Reply, OutOfMemory>
-    requires { IsWork work (work_on memory.old (task_of call.now)) }
+    requires work { IsWork work (work_on memory.old (task_of call.now)) }
+    requires may_change { MayChange memory.old }
     ensures ok { IfOk result (λ reply. stepped memory.old (task_of call.now)
         ≡ record { memory = memory.new; answer = answer_of reply }) }
     ensures err { OnErr result (memory.new ≡ memory.old) }
@@ -184,7 +192,7 @@ impl Book {
         ) else {
             return Err((call, OutOfMemory));
         };
-        let place = enter(&mut self.entries, &mut self.tickets, caller, call);
+        let place = enter(&mut self.entries, &mut self.tickets, caller, call, 0);
         Ok((place, reply))
     }
 
@@ -216,8 +224,62 @@ impl Book {
         let Ok(reply) = done(&mut self.spare, &mut self.memory, &call, work) else {
             return Err((call, OutOfMemory));
         };
-        let place = enter(&mut self.entries, &mut self.tickets, caller, call);
+        let place = enter(&mut self.entries, &mut self.tickets, caller, call, 0);
         Ok((place, reply))
+    }
+
+    /// Runs the calls of a block, 1 to `BLOCK_LIMIT`, and writes them next to one another behind the history. A fault is a reply,
+    /// and the block goes on. Answers the place of the first entry, counted from 0, and the replies in order. For want of memory at
+    /// any of them the calls come back, and memory and history are as before. The meter rises by one for each call that ran a kernel.
+    pub fn run_block(
+        &mut self,
+        execution: &impl Execution,
+        alloc: Global,
+        meter: &mut Meter,
+        caller: u64,
+        calls: Vec<Call>,
+    ) -> Result<(u64, Vec<Reply>), (Vec<Call>, OutOfMemory)>
+        requires caller { caller < CALLER_LIMIT }
+        requires few { (1 ≤ length calls.items) × (length calls.items ≤ block_limit) }
+        ensures history { OnOk result (self.new.history
+            ≡ self.old.history ++ block_entries self.old.history caller calls.items) }
+        ensures place { IfOk result (λ answer. answer.0 ≡ length self.old.history) }
+        ensures replies { IfOk result (λ answer. map answer_of answer.1.items
+            ≡ replies_from (memory_of self.old) (block_entries self.old.history caller calls.items)) }
+        ensures spaces { OnOk result (self.old.spaces ≤ self.new.spaces + length calls.items) }
+        ensures counted { OnOk result (meter.new ≡ metered (memory_of self.old) calls.items meter.old) }
+
+        ensures back { IfErr result (λ refused. refused.0 ≡ calls) }
+        ensures unchanged { OnErr result (self.new.history ≡ self.old.history) }
+        ensures spaces_kept { OnErr result (self.old.spaces ≤ self.new.spaces) }
+
+        ensures room { self.new.room ≡ self.old.room }
+        ensures rises { RisesBy (length calls.items) meter.old meter.new }
+    {
+        let Ok(mut replies) = Vec::with_capacity(alloc, calls.len()) else {
+            return Err((calls, OutOfMemory));
+        };
+        let Ok(()) = self.entries.reserve(calls.len()) else {
+            return Err((calls, OutOfMemory));
+        };
+        let Ok(()) = self.memory.begin_block(calls.len()) else {
+            return Err((calls, OutOfMemory));
+        };
+        let Ok(()) = run_each(
+            execution,
+            alloc,
+            meter,
+            &mut self.spare,
+            &mut self.memory,
+            &calls,
+            &mut replies,
+        ) else {
+            self.memory.undo_block();
+            return Err((calls, OutOfMemory));
+        };
+        self.memory.end_block();
+        let place = enter_each(&mut self.entries, &mut self.tickets, caller, calls);
+        Ok((place, replies))
     }
 
     /// Makes space for `additional` more entries at least. History and room are as before either way.
@@ -232,11 +294,12 @@ impl Book {
         Ok(())
     }
 
-    /// The number of entries. In each book the tickets of a caller are 0, 1, 2 and so on in order.
+    /// The number of entries. In each book the tickets of a caller are 0, 1, 2 and so on in order, and no block is cut.
     pub fn len(&self) -> usize
         ensures len { result ≡ length self.now.history }
         ensures ticketed { IsTicketed self.now.history }
         ensures callers { HasLawfulCallers self.now.history }
+        ensures whole { Whole self.now.history }
     {
         self.entries.len()
     }

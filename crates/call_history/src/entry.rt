@@ -8,7 +8,9 @@ pub struct Entry {
     /// How many calls of this caller stand before it.
     pub ticket: u64,
     pub call: Call,
+    /// How many more entries of its block follow at once, 0 for a single call.
+    pub rest: u64,
 }
 
 /// A long history is made of entries, so their size is what a call costs in memory beyond its own items.
-const _: () = prove!(size_of::<Entry>() == 80);
+const _: () = prove!(size_of::<Entry>() == 88);

@@ -3,16 +3,16 @@
 ghost use Rattle.std.specs.Prelude.{◌≡◌, ◌≢◌, ◌+◌, ◌≤◌, ◌∷◌, ◌++◌, [], ℕ, List, Some, None, length, map, take, slice_get, slice_set};
 ghost use Rattle.vector_memory.specs.States.{State, empty, item_limit};
 ghost use Rattle.cvl_text.specs.declared.call.Call.{Call};
-ghost use Rattle.cvl_text.specs.declared.reply.Reply.{Reply};
-ghost use Rattle.cvl_text.specs.Answers.{Answer, answer_of};
+ghost use Rattle.cvl_text.specs.Answers.{Answer};
 ghost use Rattle.call_history.specs.declared.entry.Entry.{Entry};
+ghost use Rattle.call_history.specs.declared.request.Job.{Job};
 ghost use Rattle.call_history.specs.declared.request.Request.{Request};
 ghost use Rattle.call_history.specs.declared.request.Outcome.{Outcome};
-ghost use Rattle.call_history.specs.declared.request.Outcome.TheVariants.{Answered, Refused};
 ghost use Rattle.call_history.specs.History.{Begins, entry, replay, replay_from, replies_from, last_reply, reply_after};
 ghost use Rattle.call_history.specs.Callers.{calls_by};
 ghost use Rattle.call_history.specs.Answers.{Answers};
-ghost use Rattle.call_history.specs.Fits.{Fits, IsAskedAt, Serves, asked_by, request, request_by, returned};
+ghost use Rattle.call_history.specs.Blocks.{Whole, block_entries};
+ghost use Rattle.call_history.specs.Fits.{Fits, IsAskedAt, IsOfJob, Serves, StandsAt, calls_of, fate_of, handed_back, request, request_by, returned};
 
 /// A history is replayed part by part, and keeps the room, and the limit that a memory is made with.
 pub fn replays_go_on()
@@ -53,45 +53,40 @@ pub fn beginnings_are_nested()
     ensures first { (n : ℕ) (line : List Entry) → Begins (take n line) line }
 {}
 
-/// A request asks for one call.
-pub fn asks_for_one_call()
-    ensures { (r : Request) → length (asked_by r) ≡ 1 }
-{}
-
-/// A batch without requests changes nothing. One more request of another caller fits behind a batch, where it is refused,
-/// and where it is answered behind the history as it then stands.
+/// A batch without requests changes nothing. One more request of another caller fits behind a batch, where its job comes back,
+/// and where its calls are answered next to one another behind the history as it then stands.
 pub fn batches_grow()
     ensures nothing { (room : ℕ) (history : List Entry) → Fits room history [] history [] }
-    ensures refused { (room : ℕ) (old mid : List Entry) (rs : List Request) (os : List Outcome) (k : ℕ) (call : Call)
+    ensures refused { (room : ℕ) (old mid : List Entry) (rs : List Request) (os : List Outcome) (k : ℕ) (job : Job)
         → length os ≡ length rs → request_by k rs ≡ None → Fits room old rs mid os
-        → Fits room old (rs ++ request k call ∷ []) mid (os ++ Refused call ∷ []) }
-    ensures answered { (room : ℕ) (old mid : List Entry) (rs : List Request) (os : List Outcome)
-        (k ticket : ℕ) (call : Call) (reply : Reply)
-        → length os ≡ length rs → request_by k rs ≡ None → answer_of reply ≡ reply_after room mid call
-        → Fits room old rs mid os
-        → Fits room old (rs ++ request k call ∷ []) (mid ++ entry k ticket call ∷ [])
-        (os ++ Answered (length mid) reply ∷ []) }
+        → Fits room old (rs ++ request k job ∷ []) mid (os ++ handed_back job ∷ []) }
+    ensures answered { (room : ℕ) (old mid : List Entry) (rs : List Request) (os : List Outcome) (k : ℕ) (job : Job) (o : Outcome)
+        → length os ≡ length rs → request_by k rs ≡ None → IsOfJob job o
+        → fate_of o ≡ StandsAt (length mid) (replies_from (replay room mid) (block_entries mid k (calls_of job)))
+        → Whole mid → Fits room old rs mid os
+        → Fits room old (rs ++ request k job ∷ []) (mid ++ block_entries mid k (calls_of job)) (os ++ o ∷ []) }
 {}
 
-/// A batch whose outcomes stand in the order of the requests from the start: where each call came back it changed nothing, and
-/// a call that came back may be answered behind the history as it then stands, in whatever order.
+/// A batch whose outcomes stand in the order of the requests from the start: where each job came back it changed nothing, and
+/// a job that came back may be answered behind the history as it then stands, in whatever order.
 pub fn batches_fill()
     ensures returned { (room : ℕ) (history : List Entry) (rs : List Request) → Fits room history rs history (map returned rs) }
-    ensures answered { (room : ℕ) (old mid : List Entry) (rs : List Request) (os : List Outcome) (i k ticket : ℕ)
-        (call : Call) (reply : Reply) → IsAskedAt rs i k call → slice_get os i ≡ Some (Refused call)
-        → answer_of reply ≡ reply_after room mid call → Fits room old rs mid os
-        → Fits room old rs (mid ++ entry k ticket call ∷ []) (slice_set os i (Answered (length mid) reply)) }
+    ensures answered { (room : ℕ) (old mid : List Entry) (rs : List Request) (os : List Outcome) (i k : ℕ) (job : Job) (o : Outcome)
+        → IsAskedAt rs i k job → slice_get os i ≡ Some (handed_back job) → IsOfJob job o
+        → fate_of o ≡ StandsAt (length mid) (replies_from (replay room mid) (block_entries mid k (calls_of job)))
+        → Whole mid → Fits room old rs mid os
+        → Fits room old rs (mid ++ block_entries mid k (calls_of job)) (slice_set os i o) }
 {}
 
 /// A caller that had seen no more than the history before is answered at its own place: by a batch that serves its calls,
-/// and by a call that runs behind the history.
+/// and by calls that run behind the history, next to one another.
 pub fn served_is_answered()
     ensures batch { (room : ℕ) (seen old new : List Entry) (own : List Call) (k : ℕ) (calls : List Call) (place : ℕ)
         (replies : List Answer) → Begins seen old → Begins old new
         → calls_by k old ≡ own → calls_by k new ≡ own ++ calls → Serves room old new k calls place replies
         → Answers room seen own k calls (take (place + length calls) new) replies }
-    ensures run { (room : ℕ) (seen history : List Entry) (own : List Call) (k ticket : ℕ) (call : Call)
-        → Begins seen history → calls_by k history ≡ own
-        → Answers room seen own k (call ∷ []) (history ++ entry k ticket call ∷ [])
-        (reply_after room history call ∷ []) }
+    ensures run { (room : ℕ) (seen history : List Entry) (own : List Call) (k : ℕ) (calls : List Call)
+        → Begins seen history → calls_by k history ≡ own → Whole history
+        → Answers room seen own k calls (history ++ block_entries history k calls)
+        (replies_from (replay room history) (block_entries history k calls)) }
 {}

@@ -5,13 +5,14 @@
 #![tactic(auto)]
 
 mod audit;
+mod block;
 mod book;
 mod entry;
 pub mod laws;
 mod request;
 mod work;
 
-pub use book::{Book, CALLER_LIMIT};
+pub use book::{BLOCK_LIMIT, Book, CALLER_LIMIT};
 pub use entry::Entry;
-pub use request::{Outcome, Request};
+pub use request::{Job, Outcome, Request};
 pub use work::Work;

@@ -1,5 +1,8 @@
 //! Each public function with ample memory. What each call replies is tested as scripts, above this crate.
 
+ghost use Rattle.std.specs.Prelude.{◌≡◌, None};
+
+use crate::refused::may_change;
 use cvl_calls::{
     Call, Fault, Judged, Product, Reply, Spare, Stop, alike, apply, call_word, check, judge, run,
     runs_kernel, step, step_with, work,
@@ -17,13 +20,17 @@ fn name(text: &[u8]) -> Result<Name, Fail> {
 }
 
 /// Whether a line, run on the memory, is replied to so.
+#[tactic(auto, using(cvl_calls::proofs::BlockSteps::outside_may_change))]
 fn replies<R: Threads + Execution<Shared = R> + Sync>(
     rt: &R,
     alloc: Global,
     memory: &mut Memory,
     line: &[u8],
     wanted: &[u8],
-) -> Result<bool, Fail> {
+) -> Result<bool, Fail>
+    requires outside { memory.old.block ≡ None }
+    ensures stays { memory.new.block ≡ None }
+{
     let call = Call::read(alloc, line)?;
     let mut text = Vec::new(alloc);
     step(rt, alloc, memory, &call)?.write(&mut text)?;
@@ -100,12 +107,16 @@ fn counts_the_kernels_that_ran(rt: HostRuntime) -> Result<(), Fail> {
 }
 
 /// More items than a line can hold: whether `step` finds so many truth values too long.
+#[tactic(auto, using(cvl_calls::proofs::BlockSteps::outside_may_change, cvl_calls::proofs::BlockSteps::steps_outside))]
 fn is_too_long<R: Threads + Execution<Shared = R> + Sync>(
     rt: &R,
     alloc: Global,
     memory: &mut Memory,
     items: usize,
-) -> Result<bool, Fail> {
+) -> Result<bool, Fail>
+    requires outside { memory.old.block ≡ None }
+    ensures stays { memory.new.block ≡ None }
+{
     let call = Call::SetBools {
         to: name(b"a")?,
         items: vec![in alloc; true; items]?,
@@ -136,12 +147,16 @@ fn stops_at_a_fault(rt: HostRuntime) -> Result<(), Fail> {
 }
 
 #[test]
+#[tactic(auto, using(cvl_calls::proofs::BlockSteps::outside_may_change))]
 fn applies_a_product(rt: HostRuntime) -> Result<(), Fail> {
     let mut memory = Memory::new(rt.alloc(), 2)?;
     let to = Some(name(b"a")?);
     let items = Vec::from_slice(rt.alloc(), &[4, 5])?;
     let stored = apply(&mut memory, to, Product::Store(Value::Ints(items)))?;
     assert!(rt; matches!(stored, Reply::Done) && memory.cells() == 2);
+    if !may_change(&memory) {
+        Err("in a block")?;
+    }
     let freed = apply(&mut memory, to, Product::Free)?;
     assert!(rt; matches!(freed, Reply::Done) && memory.is_empty());
     Ok(())
@@ -210,13 +225,17 @@ fn knows_alike_calls(rt: HostRuntime) -> Result<(), Fail> {
 }
 
 /// The reply to a line that is run on the memory with what was kept.
+#[tactic(auto, using(cvl_calls::proofs::BlockSteps::outside_may_change))]
 fn replied_with<'a, R: Threads + Execution<Shared = R> + Sync>(
     rt: &R,
     alloc: Global,
     spare: &mut Spare,
     memory: &mut Memory,
     line: &[u8],
-) -> Result<Vec<u8>, Fail> {
+) -> Result<Vec<u8>, Fail>
+    requires outside { memory.old.block ≡ None }
+    ensures stays { memory.new.block ≡ None }
+{
     let call = Call::read(alloc, line)?;
     let mut text = Vec::new(alloc);
     let mut meter = Meter::new();

@@ -1,6 +1,6 @@
 //! Each public call once, with ample memory.
 
-ghost use Rattle.std.specs.Prelude.{IfOk};
+ghost use Rattle.std.specs.Prelude.{◌≡◌, None, IfOk};
 ghost use Rattle.vector_memory.specs.Contents.{content_of};
 ghost use Rattle.vector_memory.specs.States.{FitsLimits, IsLawfulLimit};
 
@@ -47,12 +47,16 @@ fn is(alloc: Global, value: &Value, plain: Plain<'_>) -> Result<bool, Fail> {
 }
 
 /// What a store of the value under the name comes to, in a word.
+#[tactic(auto, using(cvl_calls::proofs::BlockSteps::outside_may_change, cvl_calls::proofs::BlockSteps::put_outside))]
 fn outcome(
     alloc: Global,
     memory: &mut Memory,
     text: &[u8],
     plain: Plain<'_>,
-) -> Result<&'static str, Fail> {
+) -> Result<&'static str, Fail>
+    requires outside { memory.old.block ≡ None }
+    ensures stays { memory.new.block ≡ None }
+{
     let name = name(text)?;
     memories_are_lawful(memory);
     let value = made(alloc, plain, memory.limit())?;
@@ -70,7 +74,10 @@ fn expect_outcomes(
     alloc: Global,
     memory: &mut Memory,
     stores: &[(&[u8], Plain<'_>, &str)],
-) -> Result<(), Fail> {
+) -> Result<(), Fail>
+    requires outside { memory.old.block ≡ None }
+    ensures stays { memory.new.block ≡ None }
+{
     for &(text, plain, wanted) in stores {
         assert_eq!(rt;
             outcome(alloc, memory, text, plain)?,
@@ -93,7 +100,11 @@ fn expect_absent(rt: &impl Abort, memory: &Memory, text: &[u8]) -> Result<(), Fa
 }
 
 /// Frees names, one after the other, and compares whether each was there.
-fn expect_freed(rt: &impl Abort, memory: &mut Memory, names: &[(&[u8], bool)]) -> Result<(), Fail> {
+#[tactic(auto, using(cvl_calls::proofs::BlockSteps::outside_may_change, cvl_calls::proofs::BlockSteps::without_outside))]
+fn expect_freed(rt: &impl Abort, memory: &mut Memory, names: &[(&[u8], bool)]) -> Result<(), Fail>
+    requires outside { memory.old.block ≡ None }
+    ensures stays { memory.new.block ≡ None }
+{
     for &(text, was) in names {
         assert_eq!(rt; memory.free(&name(text)?), was, "{text:?}");
     }
@@ -277,7 +288,9 @@ fn expect_held(
     alloc: Global,
     memory: &mut Memory,
     case: &Stores<'_>,
-) -> Result<(), Fail> {
+) -> Result<(), Fail>
+    requires outside { memory.old.block ≡ None }
+{
     expect_counts(rt, memory, 0, 0);
     expect_outcomes(rt, alloc, memory, case.stores)?;
     expect_counts(rt, memory, case.entries.len(), case.cells);
@@ -323,7 +336,9 @@ const AFTER_FREEING: &[(&[u8], Plain<'_>)] = &[
     (b"b", Plain::Segs(&[0, 2])),
 ];
 
-fn expect_freeing(rt: &impl Abort, alloc: Global, memory: &mut Memory) -> Result<(), Fail> {
+fn expect_freeing(rt: &impl Abort, alloc: Global, memory: &mut Memory) -> Result<(), Fail>
+    requires outside { memory.old.block ≡ None }
+{
     expect_outcomes(rt, alloc, memory, BEFORE_FREEING)?;
     expect_freed(rt, memory, FREED)?;
     expect_counts(rt, memory, 2, 4);
@@ -340,7 +355,10 @@ fn frees_a_name_and_closes_up(rt: HostRuntime) -> Result<(), Fail> {
 }
 
 /// Stores one integer under each of the names n0, n1 and so on, as many as there may be.
-fn fill(rt: &impl Abort, alloc: Global, memory: &mut Memory) -> Result<(), Fail> {
+fn fill(rt: &impl Abort, alloc: Global, memory: &mut Memory) -> Result<(), Fail>
+    requires outside { memory.old.block ≡ None }
+    ensures stays { memory.new.block ≡ None }
+{
     for number in 0..NAME_LIMIT {
         let text = format!(in alloc; "n{number}")?;
         let store = [(text.as_bytes(), Plain::Ints(&[1]), "stored")];
@@ -374,7 +392,9 @@ const INTO_A_FULL_MEMORY: &[(&[u8], Plain<'_>, &str)] = &[
     (b"m", Plain::Ints(&[1]), "too many names"),
 ];
 
-fn expect_full(rt: &impl Abort, alloc: Global, memory: &mut Memory) -> Result<(), Fail> {
+fn expect_full(rt: &impl Abort, alloc: Global, memory: &mut Memory) -> Result<(), Fail>
+    requires outside { memory.old.block ≡ None }
+{
     fill(rt, alloc, memory)?;
     expect_outcomes(rt, alloc, memory, INTO_A_FULL_MEMORY)?;
     expect_counts(rt, memory, NAME_LIMIT, NAME_LIMIT - 1);
@@ -391,13 +411,17 @@ fn takes_so_many_names_and_no_more(rt: HostRuntime) -> Result<(), Fail> {
 }
 
 /// Puts a value at a name, and compares what stood there before.
+#[tactic(auto, using(cvl_calls::proofs::BlockSteps::outside_may_change, cvl_calls::proofs::BlockSteps::put_outside))]
 fn expect_replaced(
     rt: &impl Abort,
     alloc: Global,
     memory: &mut Memory,
     plain: Plain<'_>,
     wanted: Option<Plain<'_>>,
-) -> Result<(), Fail> {
+) -> Result<(), Fail>
+    requires outside { memory.old.block ≡ None }
+    ensures stays { memory.new.block ≡ None }
+{
     memories_are_lawful(memory);
     let value = made(alloc, plain, memory.limit())?;
     let replaced = memory.replace(name(b"a")?, value);

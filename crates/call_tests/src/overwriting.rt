@@ -1,5 +1,8 @@
 //! Calls whose result is written over an operand, since that has many items and lies at the target, beside calls that look alike.
 
+ghost use Rattle.std.specs.Prelude.{◌≡◌, None};
+
+use crate::refused::may_change;
 use cvl_calls::{Call, Reply, Spare, step_metered, step_with};
 use scan_kernels::{Meter, Sequential};
 use std::alloc::{Alloc, Global};
@@ -10,12 +13,11 @@ use vector_memory::Memory;
 const ROOM: u64 = 1_000_000;
 
 /// The reply to a line, by a step with a meter.
-fn reply(
-    alloc: Global,
-    meter: &mut Meter,
-    memory: &mut Memory,
-    line: &[u8],
-) -> Result<Reply, Fail> {
+#[tactic(auto, using(cvl_calls::proofs::BlockSteps::outside_may_change))]
+fn reply(alloc: Global, meter: &mut Meter, memory: &mut Memory, line: &[u8]) -> Result<Reply, Fail>
+    requires outside { memory.old.block ≡ None }
+    ensures stays { memory.new.block ≡ None }
+{
     let call = Call::read(alloc, line)?;
     Ok(step_metered(&Sequential, alloc, meter, memory, &call)?)
 }
@@ -26,7 +28,10 @@ fn are_replied<R: Abort + Alloc<A = Global>>(
     meter: &mut Meter,
     memory: &mut Memory,
     lines: &[(&[u8], &[u8])],
-) -> Result<(), Fail> {
+) -> Result<(), Fail>
+    requires outside { memory.old.block ≡ None }
+    ensures stays { memory.new.block ≡ None }
+{
     for (line, wanted) in lines {
         let mut text = Vec::new(rt.alloc());
         reply(rt.alloc(), meter, memory, line)?.write(&mut text)?;
@@ -126,6 +131,7 @@ fn keeps_the_order_of_names(rt: HostRuntime) -> Result<(), Fail> {
 
 /// What was kept for the next results stays kept: a result over an operand takes none of it.
 #[test]
+#[tactic(auto, using(cvl_calls::proofs::BlockSteps::outside_may_change))]
 fn takes_no_kept_vector(rt: HostRuntime) -> Result<(), Fail> {
     let mut memory = Memory::new(rt.alloc(), ROOM)?;
     let mut meter = Meter::new();
@@ -142,6 +148,9 @@ fn takes_no_kept_vector(rt: HostRuntime) -> Result<(), Fail> {
     )?;
     assert_eq!(rt; spare.bytes(), 0);
     let call = Call::read(rt.alloc(), b"a = add_wuz b b")?;
+    if !may_change(&memory) {
+        Err("in a block")?;
+    }
     step_with(
         &Sequential,
         rt.alloc(),

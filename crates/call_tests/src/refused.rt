@@ -3,6 +3,9 @@
 //!
 //! A refused growth comes to a want of memory, what was lent stands as it did, and the same call made again goes well.
 
+ghost use Rattle.std.specs.Prelude.{◌≡◌, None, IfOk, IsTrue};
+ghost use Rattle.vector_memory.specs.States.{MayChange};
+
 mod books;
 mod calls;
 mod machines;
@@ -151,6 +154,13 @@ fn end<R: Print>(rt: &R) -> io::Result<()> {
     println!(rt; "end")
 }
 
+/// Whether the memory may change.
+pub(crate) fn may_change(memory: &Memory) -> bool
+    ensures { IsTrue result → MayChange memory.now }
+{
+    !memory.in_block() || memory.changes_left() > 0
+}
+
 /// The text of a reply.
 fn text_of(alloc: Global, reply: &Reply) -> Result<Vec<u8>, Fail> {
     let mut text = Vec::new(alloc);
@@ -184,14 +194,20 @@ fn holds<R: Abort + Alloc<A = Global>>(rt: &R, memory: &Memory, text: &[u8]) -> 
 }
 
 /// What a memory that is refused nothing replies to a line, as text.
-fn replied(alloc: Global, memory: &mut Memory, line: &str) -> Result<Vec<u8>, Fail> {
+#[tactic(auto, using(cvl_calls::proofs::BlockSteps::outside_may_change))]
+fn replied(alloc: Global, memory: &mut Memory, line: &str) -> Result<Vec<u8>, Fail>
+    requires outside { memory.old.block ≡ None }
+    ensures stays { memory.new.block ≡ None }
+{
     let call = Call::read(alloc, line.as_bytes())?;
     let reply = step(&Sequential, alloc, memory, &call)?;
     text_of(alloc, &reply)
 }
 
 /// A memory that has what the opening sets.
-fn opened(alloc: Global) -> Result<Memory, Fail> {
+fn opened(alloc: Global) -> Result<Memory, Fail>
+    ensures { IfOk result (λ memory. memory.block ≡ None) }
+{
     let mut memory = Memory::new(alloc, ROOM)?;
     for line in opening().lines() {
         replied(alloc, &mut memory, line)?;

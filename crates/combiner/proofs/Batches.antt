@@ -21,8 +21,8 @@ use Rattle.combiner.specs.Serving.{ServesBatch}
 
 apart : (k : ℕ) (rs : List Request) → request_by k rs ≡ None → (j : ℕ) (d : Request) → j < length rs → k ≢ (slice_index_or rs j d).caller
 apart k [] none j d lt = absurd (omega arith)
-apart k (r ∷ rs) none zero d lt = (request_by-middle k r.caller [] rs r.call none).0
-apart k (r ∷ rs) none (suc j) d lt = apart k rs (request_by-middle k r.caller [] rs r.call none).1 j d (omega arith)
+apart k (r ∷ rs) none zero d lt = (request_by-middle k r.caller [] rs r.job none).0
+apart k (r ∷ rs) none (suc j) d lt = apart k rs (request_by-middle k r.caller [] rs r.job none).1 j d (omega arith)
 
 pub batch_pairs : (rs : List Request) → IsDistinct rs → AllPairs (λ r s. r.caller ≢ s.caller) rs
 batch_pairs [] distinct i j d lt within = absurd (omega arith)
@@ -31,10 +31,10 @@ batch_pairs (r ∷ rs) distinct zero (suc j) d lt within = apart r.caller rs dis
 batch_pairs (r ∷ rs) distinct (suc i) zero d lt within = absurd (omega arith)
 batch_pairs (r ∷ rs) distinct (suc i) (suc j) d lt within = batch_pairs rs distinct.1 i j d (omega arith) (omega arith)
 
-waves_behind-few : (before : List (ℕ × Task)) (ts : List Task) → count_of (waves_behind before ts) ≤ length before + length ts
+waves_behind-few : (before : List (ℕ × List Task)) (ts : List (List Task)) → count_of (waves_behind before ts) ≤ length before + length ts
 waves_behind-few before [] = omega arith
 waves_behind-few before (t ∷ ts) =
-    let next : ℕ × Task = (wave_of before t, t) in
+    let next : ℕ × List Task = (wave_of before t, t) in
     omega (arith, wave_of-le before t, waves_behind-few (before ++ next ∷ []) ts, length-append before (next ∷ []))
 
 wave_count-few : (rs : List Request) → wave_count rs ≤ length rs

@@ -11,8 +11,8 @@ use Rattle.call_history.specs.declared.request.Request.{Request}
 use Rattle.call_history.specs.declared.request.Outcome.{Outcome}
 use Rattle.call_history.specs.History.{Begins}
 use Rattle.call_history.specs.Callers.{caller_limit}
-use Rattle.call_history.specs.Fits.{request, request_by}
-use Rattle.call_history.proofs.Serving.{request_by-push_else}
+use Rattle.call_history.specs.Fits.{IsLawfulJob, request, request_by}
+use Rattle.call_history.proofs.Serving.{lawful-push, request_by-push_else}
 use Rattle.request_slots.specs.declared.desk.Desk.{Desk}
 use Rattle.request_slots.specs.declared.known.Known.{Known}
 use Rattle.request_slots.specs.Passes.{is_in, tries, takes_on}
@@ -57,26 +57,28 @@ taking_misses before now now' i requests numbers is t = subst (λ (k : Known). T
   untried = λ k le. is_in-more (pass_in now).tried i k (λ e. omega arith) ∙ t.untried k (omega arith);
   untaken = λ k le. t.untaken k (omega arith);
   distinct = t.distinct;
+  jobs = t.jobs;
   requests_are = t.requests_are;
   few = let few = t.few in omega arith;
   numbered = t.numbered;
 }
 
 -- a request that was taken
-pub taking_hits : (before now now' : Known) (i : ℕ) (r : Request) (requests : List Request) (numbers : List ℕ) → r.caller ≡ i → now' ≡ passing now (takes_on (pass_in now) i r.call) → length requests < length numbers
+pub taking_hits : (before now now' : Known) (i : ℕ) (r : Request) (requests : List Request) (numbers : List ℕ) → r.caller ≡ i → IsLawfulJob r.job → now' ≡ passing now (takes_on (pass_in now) i r.job) → length requests < length numbers
     → Taking before now i requests numbers → Taking before now' (i + 1) (requests ++ r ∷ []) (set numbers (length requests) i)
-taking_hits before now now' i r requests numbers at is room t =
+taking_hits before now now' i r requests numbers at lawful is room t =
     let fresh = t.untaken i (omega arith) in
-    let mine : r ≡ request i r.call = ap (λ (k : ℕ). request k r.call) at in
+    let mine : r ≡ request i r.job = ap (λ (k : ℕ). request k r.job) at in
     subst (λ (k : Known). Taking before k (i + 1) (requests ++ r ∷ []) (set numbers (length requests) i)) (sym is) record {
       has = refl;
-      now_is = ap (λ (k : Known). passing k (takes_on (pass_in now) i r.call)) t.now_is;
+      now_is = ap (λ (k : Known). passing k (takes_on (pass_in now) i r.job)) t.now_is;
       line_is = t.line_is;
       open_yet = t.open_yet;
       tried = tried_next (pass_in now).tried i t.tried;
       untried = λ k le. is_in-more (pass_in now).tried i k (λ e. omega arith) ∙ t.untried k (omega arith);
-      untaken = λ k le. request_by-push_else k i (pass_in now).taken r.call (λ e. omega arith) ∙ t.untaken k (omega arith);
-      distinct = distinct-push (pass_in now).taken i r.call t.distinct fresh;
+      untaken = λ k le. request_by-push_else k i (pass_in now).taken r.job (λ e. omega arith) ∙ t.untaken k (omega arith);
+      distinct = distinct-push (pass_in now).taken i r.job t.distinct fresh;
+      jobs = lawful-push (pass_in now).taken (request i r.job) t.jobs lawful;
       requests_are = λ j. t.requests_are j ++ mine j ∷ [];
       few = let few = t.few in omega (arith, length-append requests (r ∷ []));
       numbered = ap (λ (k : ℕ). take k (set numbers (length requests) i)) (length-append requests (r ∷ [])) ∙ (take-set-push numbers (length requests) i room
@@ -92,8 +94,8 @@ taking_same before now i requests requests' numbers numbers' a b t = subst (λ (
 inside_all : (callers : ℕ) (rs : List Request) → ((k : ℕ) → callers ≤ k → request_by k rs ≡ None) → AllByRecursion (λ r. r.caller < callers) rs
 inside_all callers [] none = tt
 inside_all callers (r ∷ rs) none = (
-  lt_of_not-le (λ far. (request_by-middle r.caller r.caller [] rs r.call (none r.caller far)).0 refl),
-  inside_all callers rs (λ k far. (request_by-middle k r.caller [] rs r.call (none k far)).1),
+  lt_of_not-le (λ far. (request_by-middle r.caller r.caller [] rs r.job (none r.caller far)).0 refl),
+  inside_all callers rs (λ k far. (request_by-middle k r.caller [] rs r.job (none k far)).1),
 )
 
 lawful_all : (callers : ℕ) (rs : List Request) → callers ≤ caller_limit → AllByRecursion (λ r. r.caller < callers) rs → AllByRecursion (λ r. r.caller < caller_limit) rs
@@ -103,7 +105,7 @@ lawful_all callers (r ∷ rs) small inside = let near = inside.0 in (omega arith
 pub taking_batch : (before now : Known) (callers : ℕ) (requests : List Request) (numbers : List ℕ) → callers ≤ caller_limit → Taking before now callers requests numbers → IsBatch callers requests
 taking_batch before now callers requests numbers small t =
     let inside = inside_all callers (pass_in now).taken t.untaken in
-    subst (IsBatch callers) (sym t.requests_are) record { distinct = t.distinct; inside = inside; lawful = lawful_all callers (pass_in now).taken small inside }
+    subst (IsBatch callers) (sym t.requests_are) record { distinct = t.distinct; inside = inside; lawful = lawful_all callers (pass_in now).taken small inside; jobs = t.jobs }
 
 -- what was taken since the desk was taken is all that the pass has
 pub taking_here : (before now : Known) (i : ℕ) (requests : List Request) (numbers : List ℕ) → Taking before now i requests numbers → Taking now now i requests numbers
@@ -116,6 +118,7 @@ taking_here before now i requests numbers t = record {
   untried = t.untried;
   untaken = t.untaken;
   distinct = t.distinct;
+  jobs = t.jobs;
   requests_are = t.requests_are;
   few = t.few;
   numbered = t.numbered;

@@ -14,7 +14,7 @@ new_each m room (suc n) few = subst (All IsNewSeat) (sym (map-append untold (new
     (All-append IsNewSeat (map untold (newcomers m room n)) (untold (newcomer m room n) ∷ []) (new_each m room n (omega arith)) last)
   where
     last : All IsNewSeat (untold (newcomer m room n) ∷ [])
-    last zero d lt = record { idle = refl; resting = record { no_desk = refl; one_call = tt; inside = omega arith; rests = λ _. (refl, refl); no_strangers = λ _ _. refl } }
+    last zero d lt = record { idle = refl; resting = record { no_desk = refl; inside = omega arith; rests = λ _. (refl, refl); no_strangers = λ _ _. refl; whole = tt } }
     last (suc k) d lt = absurd (omega arith)
 
 pub new_seats : (m : Machine) (room n : ℕ) (seats : List Known) → n + 1 ≤ m.slots → seats ≡ map untold (newcomers m room n) → All IsNewSeat seats

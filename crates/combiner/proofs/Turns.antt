@@ -1,75 +1,149 @@
 -- What a caller knows after a call.
 -- `collected_says` is an outcome as `poll` tells it; `waiting_begins`, `waiting_combines`, `waiting_answered`
 -- and `waiting_given_back` are the turns of `wait`.
-use Rattle.std.proofs.Common.{◌≡◌, ℕ, ◌+◌, Bool, true, false, not, List, [], ◌∷◌, ◌++◌, length, append-nil, append_assoc, refl, sym, ap, ◌∙◌, subst}
+use Rattle.std.specs.Global.{Vec}
+use Rattle.std.proofs.Common.{◌≡◌, ℕ, ◌+◌, Bool, true, false, not, List, [], ◌∷◌, ◌++◌, length, map, append-nil, append_assoc, refl, sym, ap, ◌∙◌, subst}
 use Rattle.cvl_text.specs.declared.call.Call.{Call}
 use Rattle.cvl_text.specs.declared.reply.Reply.{Reply}
 use Rattle.cvl_text.specs.Answers.{answer_of}
 use Rattle.call_history.specs.declared.entry.Entry.{Entry}
 use Rattle.call_history.specs.declared.request.Outcome.{Outcome}
-use Rattle.call_history.specs.declared.request.Outcome.TheVariants.{Answered, Refused}
+use Rattle.call_history.specs.declared.request.Outcome.TheVariants.{Answered, Refused, AnsweredBlock, RefusedBlock}
+use Rattle.call_history.specs.declared.request.Job.{Job}
+use Rattle.call_history.specs.declared.request.Job.TheVariants.{One, Many}
 use Rattle.call_history.specs.History.{Begins}
 use Rattle.call_history.specs.Answers.{Answers}
-use Rattle.call_history.specs.Fits.{fate_of}
+use Rattle.call_history.specs.Fits.{calls_of, fate_of, IsOfJob}
 use Rattle.call_history.proofs.Beginnings.{begins_self, begins_trans}
 use Rattle.request_slots.specs.declared.known.Phase.{Phase}
 use Rattle.request_slots.specs.declared.known.Phase.TheVariants.{Idle, Left}
-use Rattle.request_slots.specs.Standing.{left_in, left_calls, left_start}
+use Rattle.request_slots.specs.Standing.{left_in, left_calls, left_job, left_start}
 use Rattle.request_slots.specs.Changes.{longer, answering_calls, Collected}
 use Rattle.combiner.specs.declared.answers.Polled.{Polled}
 use Rattle.combiner.specs.declared.answers.Polled.TheVariants as poll
 use Rattle.combiner.specs.declared.answers.Combined.{Combined}
 use Rattle.combiner.specs.declared.answers.Combined.TheVariants as combine
-use Rattle.combiner.specs.Standing.{Standing, IsIdle, HasLeft, IsOneCall}
-use Rattle.combiner.specs.Cases.{IfAnswered, IfBack, OnBusy, OnServed, IfServed}
+use Rattle.combiner.specs.Standing.{Standing, IsIdle, HasLeft, HasLeftACall, HasLeftBlock, HasLeftJob}
+use Rattle.combiner.specs.Cases.{IfAnswered, IfBack, IfBlockAnswered, IfBlockBack, OnBusy, OnServed, IfServed}
 use Rattle.combiner.specs.Own.{KeepsCall, IsEnded}
-use Rattle.combiner.specs.Says.{leaving, meeting, serving, KeepsNotes, Continues, IsAnswered, IsAnsweredAtLast, IsWhatWasLeft, IsGivenBack, MeetsAnother}
+use Rattle.combiner.specs.Says.{leaving, meeting, serving, KeepsNotes, Continues, IsAnswered, IsBlockAnswered, IsAnsweredAtLast, IsWhatWasLeft, IsGivenBack, IsBlockGivenBack, MeetsAnother}
 
 pub not_idle : (left idle : Bool) → idle ≡ not left → idle ≡ false → left ≡ true
 not_idle true idle is e = refl
 not_idle false idle is e = absurd (cc (is, e))
 
-one_left : (phase : Phase) → IsOneCall phase → left_in phase ≡ true → (call : Call) × (phase ≡ Left (call ∷ []) (left_start phase)) × (left_calls phase ≡ call ∷ [])
-one_left Idle one e = absurd (cc e)
-one_left (Left calls start) one e = (one.0, ap (λ (cs : List Call). Left cs start) one.1, one.1)
+-- where something is left, it is a job
+pub job_left : (phase : Phase) → left_in phase ≡ true → phase ≡ Left (left_job phase) (left_start phase)
+job_left Idle e = absurd (cc e)
+job_left (Left job start) e = refl
 
-pub has_left : (c : Standing) → IsOneCall c.phase → left_in c.phase ≡ true → HasLeft c
-has_left c one left = let mine = one_left c.phase one left in (mine.0, left_start c.phase, mine.1)
+pub has_left : (c : Standing) → left_in c.phase ≡ true → HasLeft c
+has_left c left = (left_job c.phase, left_start c.phase, job_left c.phase left)
+
+abbrev is_block : Outcome → Bool
+is_block (Answered place reply) = false
+is_block (Refused call) = false
+is_block (AnsweredBlock place replies) = true
+is_block (RefusedBlock calls) = true
+
+-- the job that was left is of the kind of its outcome
+one_left : (c : Standing) (job : Job) (o : Outcome) → is_block o ≡ false → left_job c.phase ≡ job → IsOfJob job o → (call : Call) × (left_job c.phase ≡ One call)
+one_left c (One call) o one is kind = (call, is)
+one_left c (Many calls) (Answered place reply) one is kind = absurd kind
+one_left c (Many calls) (Refused call) one is kind = absurd kind
+one_left c (Many calls) (AnsweredBlock place replies) one is kind = absurd (cc one)
+one_left c (Many calls) (RefusedBlock back) one is kind = absurd (cc one)
+
+block_left : (c : Standing) (job : Job) (o : Outcome) → is_block o ≡ true → left_job c.phase ≡ job → IsOfJob job o → (calls : Vec Call) × (left_job c.phase ≡ Many calls)
+block_left c (Many calls) o many is kind = (calls, is)
+block_left c (One call) (Answered place reply) many is kind = absurd (cc many)
+block_left c (One call) (Refused back) many is kind = absurd (cc many)
+block_left c (One call) (AnsweredBlock place replies) many is kind = absurd kind
+block_left c (One call) (RefusedBlock back) many is kind = absurd kind
+
+-- the calls of the job that is left
+left_calls-job : (c : Standing) (job : Job) → left_in c.phase ≡ true → left_job c.phase ≡ job → left_calls c.phase ≡ calls_of job
+left_calls-job c job left is = ap left_calls (job_left c.phase left) ∙ ap calls_of is
+
+is_left : (c : Standing) (job : Job) → left_in c.phase ≡ true → left_job c.phase ≡ job → HasLeftJob c job (left_start c.phase)
+is_left c job left is = job_left c.phase left ∙ ap (λ (j : Job). Left j (left_start c.phase)) is
 
 -- what became of the call that was left, as `poll` tells it
-collected_answers : (c d : Standing) (place : ℕ) (reply : Reply) → IsOneCall c.phase → left_in c.phase ≡ true
+collected_answers : (c d : Standing) (place : ℕ) (reply : Reply) → left_in c.phase ≡ true → IsOfJob (left_job c.phase) (Answered place reply)
     → Collected c (fate_of (Answered place reply)) d → IsAnswered c d place reply
-collected_answers c d place reply one left told =
-    let mine = one_left c.phase one left in
+collected_answers c d place reply left kind told =
+    let mine = one_left c (left_job c.phase) (Answered place reply) refl refl kind in
+    let calls = left_calls-job c (One mine.0) left mine.1 in
     let seen : d.seen ≡ longer c.seen told.0 = ap (λ (z : Standing). z.seen) told.5 in
     record {
       call = mine.0;
       start = left_start c.phase;
       history = told.0;
-      left = mine.1;
-      ends_there = told.1 ∙ ap (λ (cs : List Call). place + length cs) mine.2;
-      answers = subst (λ (cs : List Call). Answers c.room (left_start c.phase) c.own c.number cs told.0 (answer_of reply ∷ [])) mine.2 told.2;
-      after = told.5 ∙ ap (λ (cs : List Call). answering_calls c cs told.0) mine.2;
+      left = is_left c (One mine.0) left mine.1;
+      ends_there = told.1 ∙ ap (λ (cs : List Call). place + length cs) calls;
+      answers = subst (λ (cs : List Call). Answers c.room (left_start c.phase) c.own c.number cs told.0 (answer_of reply ∷ [])) calls told.2;
+      after = told.5 ∙ ap (λ (cs : List Call). answering_calls c cs told.0) calls;
       later = subst (Begins c.seen) (sym seen) told.3;
       whole = subst (Begins told.0) (sym seen) told.4;
     }
 
-collected_gives_back : (c d : Standing) (call : Call) → IsOneCall c.phase → left_in c.phase ≡ true
+-- and of the block
+collected_answers_block : (c d : Standing) (place : ℕ) (replies : Vec Reply) → left_in c.phase ≡ true → IsOfJob (left_job c.phase) (AnsweredBlock place replies)
+    → Collected c (fate_of (AnsweredBlock place replies)) d → IsBlockAnswered c d place replies
+collected_answers_block c d place replies left kind told =
+    let mine = block_left c (left_job c.phase) (AnsweredBlock place replies) refl refl kind in
+    let calls = left_calls-job c (Many mine.0) left mine.1 in
+    let seen : d.seen ≡ longer c.seen told.0 = ap (λ (z : Standing). z.seen) told.5 in
+    record {
+      calls = mine.0;
+      start = left_start c.phase;
+      history = told.0;
+      left = is_left c (Many mine.0) left mine.1;
+      ends_there = told.1 ∙ ap (λ (cs : List Call). place + length cs) calls;
+      answers = subst (λ (cs : List Call). Answers c.room (left_start c.phase) c.own c.number cs told.0 (map answer_of replies.items)) calls told.2;
+      after = told.5 ∙ ap (λ (cs : List Call). answering_calls c cs told.0) calls;
+      later = subst (Begins c.seen) (sym seen) told.3;
+      whole = subst (Begins told.0) (sym seen) told.4;
+    }
+
+collected_gives_back : (c d : Standing) (call : Call) → left_in c.phase ≡ true → IsOfJob (left_job c.phase) (Refused call)
     → Collected c (fate_of (Refused call)) d → IsGivenBack c d call
-collected_gives_back c d call one left told =
-    let mine = one_left c.phase one left in
-    let same : call ∷ [] ≡ mine.0 ∷ [] = told.0 ∙ mine.2 in
+collected_gives_back c d call left kind told =
+    let mine = one_left c (left_job c.phase) (Refused call) refl refl kind in
+    let same : call ∷ [] ≡ mine.0 ∷ [] = told.0 ∙ left_calls-job c (One mine.0) left mine.1 in
     let call_is : mine.0 ≡ call = cc same in
-    (left_start c.phase, mine.1 ∙ ap (λ (k : Call). Left (k ∷ []) (left_start c.phase)) call_is, told.1)
+    (left_start c.phase, is_left c (One call) left (mine.1 ∙ ap One call_is), told.1)
+
+collected_block_back : (c d : Standing) (calls : Vec Call) → left_in c.phase ≡ true → IsOfJob (left_job c.phase) (RefusedBlock calls)
+    → Collected c (fate_of (RefusedBlock calls)) d → IsBlockGivenBack c d calls
+collected_block_back c d calls left kind told =
+    let mine = block_left c (left_job c.phase) (RefusedBlock calls) refl refl kind in
+    record {
+      calls = mine.0;
+      start = left_start c.phase;
+      left = is_left c (Many mine.0) left mine.1;
+      back_is = told.0 ∙ left_calls-job c (Many mine.0) left mine.1;
+      after = told.1;
+    }
 
 abbrev pub polled_of : Outcome → Polled
 polled_of (Answered place reply) = poll.Answered place reply
 polled_of (Refused call) = poll.OutOfMemory call
+polled_of (AnsweredBlock place replies) = poll.AnsweredBlock place replies
+polled_of (RefusedBlock calls) = poll.OutOfMemoryBlock calls
 
-pub collected_says : (c d : Standing) (o : Outcome) → IsOneCall c.phase → left_in c.phase ≡ true → Collected c (fate_of o) d
-    → IfAnswered (polled_of o) (IsAnswered c d) × IfBack (polled_of o) (IsGivenBack c d)
-collected_says c d (Answered place reply) one left told = (collected_answers c d place reply one left told, tt)
-collected_says c d (Refused call) one left told = (tt, collected_gives_back c d call one left told)
+-- what a poll says that tells an outcome
+pub record IsTold (c d : Standing) (says : Polled) : Type 0 where
+  pub answered : IfAnswered says (IsAnswered c d)
+  pub back : IfBack says (IsGivenBack c d)
+  pub block_answered : IfBlockAnswered says (IsBlockAnswered c d)
+  pub block_back : IfBlockBack says (IsBlockGivenBack c d)
+
+pub collected_says : (c d : Standing) (o : Outcome) → left_in c.phase ≡ true → IsOfJob (left_job c.phase) o → Collected c (fate_of o) d → IsTold c d (polled_of o)
+collected_says c d (Answered place reply) left kind told = record { answered = collected_answers c d place reply left kind told; back = tt; block_answered = tt; block_back = tt }
+collected_says c d (Refused call) left kind told = record { answered = tt; back = collected_gives_back c d call left kind told; block_answered = tt; block_back = tt }
+collected_says c d (AnsweredBlock place replies) left kind told = record { answered = tt; back = tt; block_answered = collected_answers_block c d place replies left kind told; block_back = tt }
+collected_says c d (RefusedBlock calls) left kind told = record { answered = tt; back = tt; block_answered = tt; block_back = collected_block_back c d calls left kind told }
 
 continues_on : (a b c : List ℕ) → Continues a b → Continues b c → Continues a c
 continues_on a b c p q = (p.0 ++ q.0, q.1 ∙ (ap (λ l. l ++ q.0) p.1 ∙ append_assoc a p.0 q.0))
@@ -82,6 +156,10 @@ notes_follow c d e p q = (λ had. q.0 (p.0 had), continues_on c.met d.met e.met 
 
 notes_met : (c : Standing) (h : ℕ) → KeepsNotes c (meeting c h)
 notes_met c h = (λ had. had, (h ∷ [], refl), ([], sym (append-nil c.passes)))
+
+-- a caller that found another with the book
+pub notes_meeting : (c d : Standing) → MeetsAnother c d → KeepsNotes c d
+notes_meeting c d met = subst (KeepsNotes c) (sym met.2) (notes_met c met.0)
 
 notes_served : (c d : Standing) (line : List Entry) (calls : ℕ) → d ≡ serving c line calls → KeepsNotes c d
 notes_served c d line calls is = subst (KeepsNotes c) (sym is) (λ _. refl, ([], sym (append-nil c.met)), (calls ∷ [], refl))
@@ -104,8 +182,12 @@ waiting_combines c d d' (combine.Served calls waves kernels) w busy served later
 pub waiting_waits : (c d d' : Standing) → KeepsCall c d → d' ≡ d → KeepsCall c d'
 waiting_waits c d d' w is = subst (KeepsCall c) (sym is) w
 
-pub waiting_not_idle : (c d : Standing) → HasLeft c → KeepsCall c d → IsIdle d → ⊥
+pub waiting_not_idle : (c d : Standing) → HasLeftACall c → KeepsCall c d → IsIdle d → ⊥
 waiting_not_idle c d left w e = cc (left.2, w.phase, e)
+
+-- what it left is no block
+pub waiting_no_block : (c d : Standing) (calls : Vec Call) (start : List Entry) → HasLeftACall c → KeepsCall c d → HasLeftBlock d calls start → ⊥
+waiting_no_block c d calls start left w block = cc (left.2, w.phase, block)
 
 pub waiting_answered : (c d d' : Standing) (place : ℕ) (reply : Reply) → KeepsCall c d → IsAnswered d d' place reply → IsEnded c d' × IsAnsweredAtLast c d' place reply
 waiting_answered c d d' place reply w a = (
@@ -142,5 +224,5 @@ waiting_given_back back c d d' w t = (
 )
 
 -- a caller that has left a call, and nothing since
-pub left_by_leaving : (call : Call) (c b : Standing) → b ≡ leaving c call → HasLeft b
+pub left_by_leaving : (call : Call) (c b : Standing) → b ≡ leaving c call → HasLeftACall b
 left_by_leaving call c b is = (call, c.seen, ap (λ (z : Standing). z.phase) is)

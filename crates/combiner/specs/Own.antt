@@ -1,17 +1,17 @@
 -- A call that runs while its caller has the book.
--- `HasEntered` is the call and its entry, `KeepsCall` what a caller knows while others are served, and `IsEnded` what it knows where a call
+-- `HasEntered` is the call and its entry, `HasEnteredBlock` the same of a block, `KeepsCall` what a caller knows while others are served, and `IsEnded` what it knows where a call
 -- of its own ends.
-use Rattle.std.specs.Prelude.{◌≡◌, ℕ, ◌+◌, List, [], ◌∷◌, length}
+use Rattle.std.specs.Prelude.{◌≡◌, ℕ, ◌+◌, true, List, [], ◌∷◌, length}
 use Rattle.cvl_text.specs.declared.call.Call.{Call}
 use Rattle.cvl_text.specs.declared.reply.Reply.{Reply}
-use Rattle.cvl_text.specs.Answers.{answer_of}
+use Rattle.cvl_text.specs.Answers.{Answer, answer_of}
 use Rattle.call_history.specs.declared.entry.Entry.{Entry}
 use Rattle.call_history.specs.History.{Begins}
 use Rattle.call_history.specs.Answers.{Answers}
 use Rattle.request_slots.specs.declared.known.Known.{Known}
 use Rattle.request_slots.specs.Views.{entering_line}
 use Rattle.combiner.specs.Standing.{Standing, IsIdle}
-use Rattle.combiner.specs.Says.{KeepsNotes}
+use Rattle.combiner.specs.Says.{Continues, KeepsNotes}
 
 -- The call stands last in the history, at this place, and has this reply there. The history is the one committed, and answers the
 -- call to its caller.
@@ -20,6 +20,14 @@ pub record HasEntered (call : Call) (before now : Known) (place : ℕ) (reply : 
   pub now_is : now ≡ entering_line before line
   pub ends_there : length line ≡ place + 1
   pub answers : Answers before.standing.room before.standing.seen before.standing.own before.standing.number (call ∷ []) line (answer_of reply ∷ [])
+
+-- The calls of a block stand last in the history, from this place on, and have these replies there. The history is the one
+-- committed, and answers the block to its caller.
+pub record HasEnteredBlock (calls : List Call) (before now : Known) (place : ℕ) (replies : List Answer) : Type 0 where
+  pub line : List Entry
+  pub now_is : now ≡ entering_line before line
+  pub ends_there : length line ≡ place + length calls
+  pub answers : Answers before.standing.room before.standing.seen before.standing.own before.standing.number calls line replies
 
 -- what a caller left and what was answered to it stay, and it sees no less
 pub record KeepsCall (c d : Standing) : Type 0 where
@@ -37,3 +45,11 @@ pub record IsEnded (c d : Standing) : Type 0 where
   pub idle : IsIdle d
   pub later : Begins c.seen d.seen
   pub notes : KeepsNotes c d
+
+-- it waited for the book, and found others with it
+abbrev pub HasWaited : Standing → Standing → Type 0
+HasWaited c d = Continues c.met d.met × (d ≡ record c { met = d.met })
+
+-- it waited for the book, and has it
+abbrev pub HasTaken : Standing → Standing → Type 0
+HasTaken c d = Continues c.met d.met × (d ≡ record c { met = d.met; held = true })

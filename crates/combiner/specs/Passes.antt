@@ -8,7 +8,7 @@ use Rattle.call_history.specs.declared.request.Request.{Request}
 use Rattle.call_history.specs.declared.request.Outcome.{Outcome}
 use Rattle.call_history.specs.History.{Begins}
 use Rattle.call_history.specs.Callers.{caller_limit}
-use Rattle.call_history.specs.Fits.{request_by}
+use Rattle.call_history.specs.Fits.{IsLawfulJob, request_by}
 use Rattle.request_slots.specs.declared.desk.Desk.{Desk}
 use Rattle.request_slots.specs.declared.known.Known.{Known}
 use Rattle.request_slots.specs.Passes.{is_in}
@@ -29,6 +29,7 @@ pub record Taking (before now : Known) (i : ℕ) (requests : List Request) (numb
   pub untried : (k : ℕ) → i ≤ k → is_in (pass_in now).tried k ≡ false
   pub untaken : (k : ℕ) → i ≤ k → request_by k (pass_in now).taken ≡ None
   pub distinct : IsDistinct (pass_in now).taken
+  pub jobs : AllByRecursion (λ r. IsLawfulJob r.job) (pass_in now).taken
   pub requests_are : requests ≡ (pass_in now).taken
   pub few : length requests ≤ i
   pub numbered : take (length requests) numbers ≡ map asker requests
@@ -46,11 +47,12 @@ pub record IsReadyDesk (callers : ℕ) (c : Known) (numbers : List ℕ) (d : Des
   pub request_spaces : callers ≤ vec_capacity d.requests
   pub outcome_spaces : callers ≤ vec_capacity d.outcomes
 
--- requests of distinct callers, of so many
+-- requests of distinct callers, of so many, for jobs that may be asked for
 pub record IsBatch (callers : ℕ) (requests : List Request) : Type 0 where
   pub distinct : IsDistinct requests
   pub inside : AllByRecursion (λ r. r.caller < callers) requests
   pub lawful : AllByRecursion (λ r. r.caller < caller_limit) requests
+  pub jobs : AllByRecursion (λ r. IsLawfulJob r.job) requests
 
 -- the outcomes that are left are those of the requests that are left, of all that the commit had
 pub record Telling (callers : ℕ) (before now : Known) (outcomes : List Outcome) (numbers : List ℕ) (count : ℕ) : Type 0 where

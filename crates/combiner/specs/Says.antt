@@ -1,15 +1,21 @@
 -- What each call does to what is known of a caller. The functions on `Standing`, which are passed on from the crate below, are one
 -- call each; what one does not name stays as it was.
--- `IsAnswered`, `IsAnsweredAtLast` and `IsAnsweredTo` are what an answer says, `FindsAnother` what it says to find the book taken.
-use Rattle.std.specs.Prelude.{◌≡◌, ℕ, ◌+◌, true, List, [], ◌∷◌, ◌++◌, length}
+-- `IsAnswered`, `IsBlockAnswered`, `IsAnsweredAtLast`, `IsAnsweredTo` and `IsBlockAnsweredTo` are what an answer says, `FindsAnother` what it says to find the book taken.
+use Rattle.std.specs.Global.{Vec}
+use Rattle.std.specs.Prelude.{◌≡◌, ℕ, ◌+◌, true, List, [], ◌∷◌, ◌++◌, length, map}
 use Rattle.cvl_text.specs.declared.call.Call.{Call}
 use Rattle.cvl_text.specs.declared.reply.Reply.{Reply}
-use Rattle.cvl_text.specs.Answers.{answer_of}
+use Rattle.cvl_text.specs.Answers.{Answer, answer_of}
 use Rattle.call_history.specs.declared.entry.Entry.{Entry}
 use Rattle.call_history.specs.History.{Begins}
 use Rattle.call_history.specs.Answers.{Answers}
-pub use Rattle.request_slots.specs.Changes.{leaving, resting, answering, seeing, meeting, serving, longer_seen, IsAnother, FindsAnother, MeetsAnother, HasOwnCalls}
-use Rattle.combiner.specs.Standing.{Standing, HasLeftCall}
+use Rattle.call_history.specs.declared.request.Job.TheVariants.{Many}
+pub use Rattle.request_slots.specs.Changes.{leaving, leaving_job, resting, answering, answering_calls, seeing, meeting, serving, longer_seen, IsAnother, FindsAnother, MeetsAnother, HasOwnCalls}
+use Rattle.combiner.specs.Standing.{Standing, HasLeftCall, HasLeftBlock}
+
+-- the caller leaves this block
+abbrev pub leaving_block : Standing → Vec Call → Standing
+leaving_block c calls = leaving_job c (Many calls)
 
 -- The call that was left was answered: there is a history that ends with its entry at this place, which begins with all that
 -- had been seen when it was left, has the record and then the call as the caller's calls, and in which this is the reply. The
@@ -22,6 +28,27 @@ pub record IsAnswered (c d : Standing) (place : ℕ) (reply : Reply) : Type 0 wh
   pub ends_there : length history ≡ place + 1
   pub answers : Answers c.room start c.own c.number (call ∷ []) history (answer_of reply ∷ [])
   pub after : d ≡ answering c call history
+  pub later : Begins c.seen d.seen
+  pub whole : Begins history d.seen
+
+-- the calls of the block that was left came back, in order: record and front are as before
+pub record IsBlockGivenBack (c d : Standing) (back : Vec Call) : Type 0 where
+  pub calls : Vec Call
+  pub start : List Entry
+  pub left : HasLeftBlock c calls start
+  pub back_is : back.items ≡ calls.items
+  pub after : d ≡ resting c
+
+-- The block that was left was answered: as `IsAnswered`, with its calls next to one another in the history, the first of them at this
+-- place and nothing behind the last, and with a reply to each.
+pub record IsBlockAnswered (c d : Standing) (place : ℕ) (replies : Vec Reply) : Type 0 where
+  pub calls : Vec Call
+  pub start : List Entry
+  pub history : List Entry
+  pub left : HasLeftBlock c calls start
+  pub ends_there : length history ≡ place + length calls.items
+  pub answers : Answers c.room start c.own c.number calls.items history (map answer_of replies.items)
+  pub after : d ≡ answering_calls c calls.items history
   pub later : Begins c.seen d.seen
   pub whole : Begins history d.seen
 
@@ -51,6 +78,16 @@ pub record IsAnsweredTo (call : Call) (c d : Standing) (place : ℕ) (reply : Re
   pub answers : Answers c.room c.seen c.own c.number (call ∷ []) history (answer_of reply ∷ [])
   pub whole : Begins history d.seen
   pub record_is : d.own ≡ c.own ++ call ∷ []
+
+-- The calls of this block were answered at once: there is a history that ends with the entries of the block, next to one another
+-- from this place on, which begins with all that had been seen before, has the record and then these calls as the caller's calls, and in
+-- which these are the replies. The front begins with it.
+pub record IsBlockAnsweredTo (calls : List Call) (c d : Standing) (place : ℕ) (replies : List Answer) : Type 0 where
+  pub history : List Entry
+  pub ends_there : length history ≡ place + length calls
+  pub answers : Answers c.room c.seen c.own c.number calls history replies
+  pub whole : Begins history d.seen
+  pub record_is : d.own ≡ c.own ++ calls
 
 -- a list that stays, and may get longer
 abbrev pub Continues : List ℕ → List ℕ → Type 0

@@ -1,12 +1,17 @@
 -- What contracts know of a caller between two calls, and the words for it. Those of the crate below are passed on: `Standing` is the
 -- whole of it; `IsIdle`, `HasLeft` and `Rests` speak of its phase; `newcomers` are the callers of a new machine.
-use Rattle.std.specs.Prelude.{◌≡◌, ℕ, ◌<◌, [], ◌∷◌, None}
+use Rattle.std.specs.Prelude.{◌≡◌, ℕ, ◌<◌, [], List, None}
 use Rattle.cvl_text.specs.declared.call.Call.{Call}
-use Rattle.request_slots.specs.declared.known.Phase.{Phase}
+use Rattle.call_history.specs.Blocks.{Whole}
+use Rattle.call_history.specs.declared.entry.Entry.{Entry}
 pub use Rattle.request_slots.specs.declared.known.Phase.TheVariants.{Idle, Left}
 use Rattle.request_slots.specs.declared.known.Known.{Known}
 pub use Rattle.request_slots.specs.Fronts.{IsOfCallers}
-pub use Rattle.request_slots.specs.Standing.{Machine, callers_of, Standing, left_calls, IsIdle, HasLeftCall, HasLeft, Rests, newcomer, newcomers}
+pub use Rattle.request_slots.specs.Standing.{Machine, callers_of, Standing, left_calls, IsIdle, HasLeftJob, HasLeftCall, HasLeftBlock, HasLeft, Rests, newcomer, newcomers}
+
+-- what is left is a single call
+abbrev pub HasLeftACall : Standing → Type 0
+HasLeftACall c = (call : Call) × (start : List Entry) × HasLeftCall c call start
 
 -- what the seat of a caller shows
 abbrev pub standing : Known → Standing
@@ -21,18 +26,13 @@ pub record IsNewAt (m : Machine) (room : ℕ) (c : Standing) : Type 0 where
   pub record_is : c.own ≡ []
   pub rests : Rests c
 
--- what a caller may leave is one call
-abbrev pub IsOneCall : Phase → Type 0
-IsOneCall Idle = Unit {0}
-IsOneCall (Left calls start) = (call : Call) × (calls ≡ call ∷ [])
-
 -- what every caller keeps of its seat between two calls
 pub record IsResting (c : Known) : Type 0 where
   pub no_desk : c.pass ≡ None
-  pub one_call : IsOneCall c.standing.phase
   pub inside : c.standing.number < callers_of c.standing.machine
   pub rests : Rests c.standing
   pub no_strangers : IsOfCallers (callers_of c.standing.machine) c.standing.seen
+  pub whole : Whole c.standing.seen
 
 -- a seat that nobody has used
 pub record IsNewSeat (c : Known) : Type 0 where

@@ -1,4 +1,5 @@
 ghost use Rattle.std.specs.Prelude.{◌≡◌, ◌↔◌, ◌<◌, IsTrue, All, map, IfOk};
+ghost use Rattle.call_history.specs.Blocks.{Whole};
 ghost use Rattle.combiner.specs.Standing.{Standing, standing, IsIdle, IsResting, IsNewSeat, Rests, callers_of, IsOfCallers};
 
 use request_slots::Seat;
@@ -23,16 +24,17 @@ impl Model for Caller {
 }
 
 impl Caller {
-    /// The number of the caller, from 0. What it has seen has no calls but of callers of its machine.
+    /// The number of the caller, from 0. What it has seen has no calls but of callers of its machine, and cuts no block.
     pub fn number(&self) -> usize
         ensures number { result ≡ self.now.number }
         ensures inside { self.now.number < callers_of self.now.machine }
         ensures no_strangers { IsOfCallers (callers_of self.now.machine) self.now.seen }
+        ensures whole { Whole self.now.seen }
     {
         self.seat.number()
     }
 
-    /// Whether no call is left. Then the caller's own calls in what it has seen are its record, and it is not settled.
+    /// Whether nothing is left. Then the caller's own calls in what it has seen are its record, and it is not settled.
     pub fn is_idle(&self) -> bool
         ensures idle { IsTrue result ↔ IsIdle self.now }
         ensures rests { Rests self.now }

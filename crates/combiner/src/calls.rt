@@ -1,8 +1,9 @@
 //! The calls of a machine, one or two a file.
 
 mod call;
+mod call_block;
 mod combine;
 mod look;
 mod poll;
 mod post;
-mod wait;
+pub(crate) mod wait;

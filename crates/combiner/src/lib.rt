@@ -3,7 +3,7 @@
 //! order; each such history is a beginning of one history.
 //!
 //! A caller leaves its call, and whichever caller finds the book free serves all that were left: flat combining (Hendler,
-//! Incze, Shavit and Tzafrir, 2010). `post`, `poll`, `look`, `meet` and `combine` never wait for another thread.
+//! Incze, Shavit and Tzafrir, 2010). `post`, `post_block`, `poll`, `look`, `meet` and `combine` never wait for another thread.
 #![tactic(auto)]
 
 mod answers;
@@ -11,12 +11,13 @@ mod caller;
 mod calls;
 mod fault;
 mod own;
+mod own_block;
 mod pass;
 mod shared;
 #[cfg(test)]
 mod tests;
 
-pub use answers::{Combined, Occupied, Polled, Unfinished};
+pub use answers::{Combined, Occupied, OccupiedBlock, Polled, Unfinished};
 pub use caller::Caller;
 pub use fault::MakeFault;
 pub use shared::Shared;

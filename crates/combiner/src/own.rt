@@ -1,6 +1,7 @@
 //! A call of a caller that finds the book free: it runs at once, on no slot, and what others left is served behind it.
 
 ghost use Rattle.std.specs.Prelude.{◌≡◌, ◌+◌, ◌<◌, ◌≤◌, true, Some, None, IfOk, IfErr, OnErr};
+ghost use Rattle.call_history.specs.Blocks.{Whole};
 ghost use Rattle.call_history.specs.Callers.{caller_limit, calls_by};
 ghost use Rattle.call_history.specs.History.{Begins};
 ghost use Rattle.request_slots.specs.Changes.{ShowsLine};
@@ -34,6 +35,7 @@ fn enter(
     requires room { book.old.room ≡ seat.old.standing.room }
     requires begins { Begins seat.old.standing.seen book.old.history }
     requires own { calls_by seat.old.standing.number book.old.history ≡ seat.old.standing.own }
+    requires whole { Whole book.old.history }
     ensures place { seat.new.standing.machine ≡ slots.now }
     ensures ran { IfOk result (λ answer. HasEntered call seat.old seat.new answer.0 answer.1) }
     ensures fresh { seat.new.pass ≡ Some (fresh_pass book.new.history) }
@@ -50,7 +52,7 @@ fn enter(
 }
 
 /// Serves what others left, and gives the desk back.
-fn serve_left(
+pub(crate) fn serve_left(
     execution: &impl Execution,
     alloc: Global,
     slots: &Slots,
@@ -71,6 +73,7 @@ fn serve_left(
     ensures no_desk { seat.new.pass ≡ None }
     ensures rests { Rests seat.new.standing }
     ensures no_strangers { IsOfCallers (callers_of seat.new.standing.machine) seat.new.standing.seen }
+    ensures whole { Whole seat.new.standing.seen }
 {
     let mut numbers = [0u8; 64];
     take_all(slots, seat, callers, &mut desk.requests, &mut numbers);

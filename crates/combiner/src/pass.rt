@@ -1,6 +1,7 @@
 //! One pass of a caller that serves what all callers left.
 
 ghost use Rattle.std.specs.Prelude.{◌≡◌, ◌+◌, ◌<◌, ◌≤◌, [], length, None, Some, IfSome, IfNone, vec_len, vec_capacity};
+ghost use Rattle.call_history.specs.Blocks.{Whole};
 ghost use Rattle.request_slots.specs.Passes.{fresh_pass};
 ghost use Rattle.request_slots.specs.Views.{pass_in, with_standing};
 ghost use Rattle.combiner.specs.Standing.{callers_of, Rests, IsOfCallers};
@@ -86,6 +87,7 @@ pub(crate) fn serve(
     ensures few_waves { result.1.waves ≤ result.0 }
     ensures rests { Rests seat.new.standing }
     ensures no_strangers { IsOfCallers (callers_of seat.new.standing.machine) seat.new.standing.seen }
+    ensures whole { Whole seat.new.standing.seen }
 {
     let count = desk.requests.len();
     let open = &mut *desk;
@@ -123,6 +125,7 @@ pub(crate) fn pass(
     ensures few_waves { IfSome result (λ p. p.1.waves ≤ p.0) }
     ensures rests { IfSome result (λ _. Rests seat.new.standing) }
     ensures no_strangers { IfSome result (λ _. IsOfCallers (callers_of seat.new.standing.machine) seat.new.standing.seen) }
+    ensures whole { IfSome result (λ _. Whole seat.new.standing.seen) }
     ensures busy { IfNone result (MeetsAnother seat.old.standing seat.new.standing) }
     ensures only_met { IfNone result (seat.new ≡ with_standing seat.old seat.new.standing) }
 {

@@ -1,5 +1,6 @@
 ghost use Rattle.std.specs.Prelude.{◌≡◌, ◌<◌, length, IfOk, IfErr, OnOk, OnErr, All};
 ghost use Rattle.vector_memory.specs.States.{IsLawfulRoom};
+ghost use Rattle.call_history.specs.Blocks.{Whole};
 ghost use Rattle.call_history.specs.History.{Begins};
 ghost use Rattle.combiner.specs.Standing.{Machine, callers_of, newcomers, IsIdle, IsNewAt, IsOfCallers};
 ghost use Rattle.combiner.specs.Making.{IsLawfulCount, IsMadeImpossible, IsSized};
@@ -52,14 +53,15 @@ impl Shared {
     }
 
     /// The book, unless another caller has it, which cannot be with one caller. Its history begins with what the closer has
-    /// seen, and has the closer's answered calls, and the call that it left if that was served. With one caller, which is idle,
-    /// it has its answered calls and no others.
+    /// seen, and has the closer's answered calls, and what it left if that was served. No block is cut in it. With one caller,
+    /// which is idle, it has its answered calls and no others.
     pub fn close(self, caller: Caller) -> Result<Book, Unfinished>
         requires { caller.machine ≡ self }
         ensures room { IfOk result (λ book. book.room ≡ caller.room) }
         ensures begins { IfOk result (λ book. Begins caller.seen book.history) }
         ensures own { IfOk result (λ book. HasOwnCalls caller book.history) }
         ensures no_strangers { IfOk result (λ book. IsOfCallers (callers_of self) book.history) }
+        ensures whole { IfOk result (λ book. Whole book.history) }
         ensures alone { IfOk result (λ book. callers_of self ≡ 1 → IsIdle caller → length book.history ≡ length caller.own) }
         ensures found { OnErr result (FindsAnother caller) }
         ensures not_alone { OnErr result (1 < callers_of self) }

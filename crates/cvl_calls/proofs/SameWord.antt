@@ -1,6 +1,5 @@
 -- The same inner word makes the same word.
 use Rattle.std.proofs.Common.{◌≡◌, ap}
-use Rattle.cvl_text.specs.declared.word.Word.{Word}
 use Rattle.cvl_text.specs.declared.word.Word.TheVariants.{One, Two, Three, BckSeg}
 use Rattle.cvl_text.specs.declared.word.OneWord.{OneWord}
 use Rattle.cvl_text.specs.declared.word.TwoWord.{TwoWord}

@@ -1,8 +1,7 @@
 -- A pack needs no segments, `over_items-packed`.
-use Rattle.std.proofs.Common.{◌≡◌, ℕ, List, [], ◌∷◌, ◌++◌, length, take, drop, refl, sym, ap, ◌∙◌, subst, All, sum, ℤ, Bool, arith}
+use Rattle.std.proofs.Common.{◌≡◌, ℕ, List, [], ◌∷◌, ◌++◌, length, take, drop, refl, sym, ap, ◌∙◌, sum, ℤ, Bool, arith}
 use Rattle.std.proofs.lemmas.List.{length-drop, length-take, take-append-drop}
 use Rattle.std.proofs.lemmas.List.Sums.{sum_by-cons}
-use Rattle.segment_desc.specs.Cut.{cut}
 use Rattle.scan_kernels.specs.Packed.{packed}
 use Rattle.scan_kernels.proofs.PackedLists.{packed-append}
 use Rattle.vector_memory.specs.Contents.{Content, Ints, Bools, Segs, size_of}

@@ -1,7 +1,6 @@
 -- A result that is written over an operand: the vectors that are taken out of the memory are those that the call reads (`same_ints`,
 -- `other_stays`), and putting the result back is the call's step (`applied_over`).
-use Rattle.std.proofs.Common.{◌≡◌, ℤ, List, [], length, map, Bool, true, false, Option, Some, None, Ok, refl, sym, ap, ◌∙◌, ℕ, ◌≤◌, arith}
-use Rattle.std.specs.Prelude.{◌==◌}
+use Rattle.std.proofs.Common.{◌≡◌, ℤ, List, [], length, map, true, false, Option, Some, None, Ok, refl, sym, ap, ◌∙◌, ℕ, ◌≤◌, arith}
 use Rattle.std.proofs.lemmas.Bool.{eq-eqb}
 use Rattle.std.proofs.lemmas.List.{length-map}
 use Rattle.item_operations.specs.declared.operation.Z1.{Z1}
@@ -16,17 +15,17 @@ use Rattle.scan_kernels.proofs.Placed.{paired_long}
 use Rattle.vector_memory.specs.declared.name.Name.{Name}
 use Rattle.vector_memory.specs.Contents.{Content, Ints}
 use Rattle.vector_memory.specs.Names.{same_name}
-use Rattle.vector_memory.specs.States.{State, value_at, put, refusal}
+use Rattle.vector_memory.specs.States.{State, spent, value_at, put, refusal}
 use Rattle.vector_memory.proofs.Putting.{fits_back, lookup-inserted, put-put, value_at-put}
 use Rattle.vector_memory.proofs.StateLemmas.{value_at-fits}
 use Rattle.cvl_text.specs.Answers.{Done}
 use Rattle.cvl_calls.specs.Conditions.{seconds}
 use Rattle.cvl_calls.specs.Operands.{integers}
-use Rattle.cvl_calls.specs.Outcomes.{Effect, Held, Stores}
+use Rattle.cvl_calls.specs.Outcomes.{Held, Stores}
 use Rattle.cvl_calls.specs.Over.{CanApply, WasTaken, made_by}
 use Rattle.cvl_calls.specs.declared.over.one.Change.{Change}
 use Rattle.cvl_calls.specs.declared.over.one.Change.TheVariants as changes
-use Rattle.cvl_calls.specs.Steps.{Stepped, followed, refused}
+use Rattle.cvl_calls.specs.Steps.{followed, refused}
 use Rattle.cvl_calls.specs.Work.{map_one, map_two, scan}
 
 abbrev ints_of : Option Content → List ℤ
@@ -68,11 +67,11 @@ pub applies : (m : State) (op : Z2) (a b : Name) (can : CanApply m op a b)
     → map_two integers integers (seconds op) (apply_z op) (Held (value_at m a)) (Held (value_at m b)) ≡ Ok (Stores (Ints (item_by_item (apply_z op) can.left can.right)))
 applies m op a b can = rw (can.left_is, can.right_is) (worked op can.left can.right can.same can.taken)
 
--- The result of a call stands at its target, also where the target held something else between.
-pub applied_over : (m held after : State) (to : Name) (between v w : Content) → refusal m to v ≡ None → held ≡ put m to between → after ≡ put held to w → w ≡ v
+-- The result of a call outside a block stands at its target, also where the target held something else between.
+pub applied_over : (m held after : State) (to : Name) (between v w : Content) → m.block ≡ None → refusal m to v ≡ None → held ≡ put m to between → after ≡ put held to w → w ≡ v
     → followed m (Some to) (Ok (Stores v)) ≡ record { memory = after; answer = Done }
-applied_over m held after to between v w accepted was is same =
-    let written : after ≡ put m to v = is ∙ ap (λ (s : State). put s to w) was ∙ put-put m to between w ∙ ap (put m to) same in
+applied_over m held after to between v w outside accepted was is same =
+    let written : after ≡ put m to v = is ∙ ap (λ (s : State). put s to w) was ∙ put-put m to between w outside ∙ ap (put m to) same in
     ap (λ why. refused m why (put m to v)) accepted ∙ ap (λ (s : State). record { memory = s; answer = Done }) (sym written)
 
 -- What was taken out may be put back, or as many integers: they keep the limit, their name is there, and the store is not refused.
@@ -82,6 +81,9 @@ module _ (held : State) (to : Name) (count : ℕ) (taken : WasTaken held to coun
       let limit : held.limit ≡ taken.before.limit = ap (λ (s : State). s.limit) taken.left in
       let few : length taken.taken ≤ taken.before.limit = rw taken.there at (value_at-fits taken.before to taken.lawful) in
       omega (arith, taken.enough)
+
+  pub taken_outside : held.block ≡ None
+  taken_outside = ap (λ (s : State). s.block) taken.left ∙ ap (spent true) taken.outside
 
   pub taken_there : value_at held to ≡ None → ⊥
   taken_there none =

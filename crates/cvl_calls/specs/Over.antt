@@ -28,11 +28,12 @@ pub record CanApply (m : State) (op : Z2) (a b : Name) : Type 0 where
 abbrev pub IsInts : State → Name → Type 0
 IsInts m a = (xs : List ℤ) × (value_at m a ≡ Some (Ints xs))
 
--- As many integers or more were taken out of a lawful memory, which left none of them at their name.
+-- As many integers or more were taken out of a lawful memory outside a block, which left none of them at their name.
 pub record WasTaken (held : State) (to : Name) (count : ℕ) : Type 0 where
   pub before : State
   pub taken : List ℤ
   pub lawful : IsLawful before
+  pub outside : before.block ≡ None
   pub there : value_at before to ≡ Some (Ints taken)
   pub left : held ≡ put before to (Ints [])
   pub enough : count ≤ length taken
@@ -43,8 +44,13 @@ made_by (changes.Alter op) xs = map (alter_z op) xs
 made_by (changes.Scan op) xs = scanned (combine_z op) (unit_z op) xs
 
 -- One vector of a call item by item, or of a scan, lies at its target, and the other, if there are two, does not.
-abbrev pub GoesOver : State → Call → Type 0
-GoesOver m (calls.MapZ2 op to a b) = CanApply m op a b × (same_name to a ≡ not (same_name to b))
-GoesOver m (calls.MapZ1 op to a) = IsInts m to × (same_name to a ≡ true)
-GoesOver m (calls.ScanOfZ op to a None) = IsInts m to × (same_name to a ≡ true)
-GoesOver m other = ⊥
+abbrev pub LiesAtTarget : State → Call → Type 0
+LiesAtTarget m (calls.MapZ2 op to a b) = CanApply m op a b × (same_name to a ≡ not (same_name to b))
+LiesAtTarget m (calls.MapZ1 op to a) = IsInts m to × (same_name to a ≡ true)
+LiesAtTarget m (calls.ScanOfZ op to a None) = IsInts m to × (same_name to a ≡ true)
+LiesAtTarget m other = ⊥
+
+-- A result may be written over the vector at its target, outside a block: in a block that vector has to stay for an undo.
+pub record GoesOver (m : State) (call : Call) : Type 0 where
+  pub at_target : LiesAtTarget m call
+  pub outside : m.block ≡ None

@@ -1,6 +1,6 @@
 ghost use Rattle.std.specs.Prelude.{◌≡◌, ◌≤◌, None, IsOk, IfOk, OnErr};
 ghost use Rattle.vector_memory.specs.Contents.{content_of};
-ghost use Rattle.vector_memory.specs.States.{FitsLimits, refusal};
+ghost use Rattle.vector_memory.specs.States.{FitsLimits, MayChange, refusal};
 ghost use Rattle.cvl_text.specs.Answers.{answer_of};
 ghost use Rattle.cvl_text.specs.Tasks.{task_of};
 ghost use Rattle.cvl_calls.specs.Outcomes.{Counts, GivesBy, IsDecided, IsFittingEffect, effect_of, operands_of};
@@ -65,10 +65,12 @@ pub fn work_with(
     Ok(run_with(execution, alloc, meter, spare, judged)?)
 }
 
-/// The reply to a store, and the value that stood at the name before.
+/// The reply to a store, and the value that stood at the name before, as `replace` gives it back. In a block there has to be a
+/// change left.
 #[inline(always)]
 fn store(memory: &mut Memory, to: Name, value: Value) -> Result<(Reply, Option<Value>), OutOfMemory>
-    requires { FitsLimits memory.old.limit (content_of value) }
+    requires fits { FitsLimits memory.old.limit (content_of value) }
+    requires may_change { MayChange memory.old }
     ensures ok { IfOk result (λ done. stored memory.old to (content_of value)
         ≡ record { memory = memory.new; answer = answer_of done.0 }) }
     ensures grows { OnErr result (refusal memory.old to (content_of value) ≡ None) }
@@ -82,14 +84,16 @@ fn store(memory: &mut Memory, to: Name, value: Value) -> Result<(Reply, Option<V
     }
 }
 
-/// The reply to a call, of what was made of its operands, and the value that it replaced.
+/// The reply to a call, of what was made of its operands, and the value that it replaced. In a block there has to be a change
+/// left.
 #[inline(always)]
 fn settle(
     memory: &mut Memory,
     to: Option<Name>,
     product: Product,
 ) -> Result<(Reply, Option<Value>), OutOfMemory>
-    requires { IsFittingEffect memory.old.limit (effect_of product) }
+    requires fits { IsFittingEffect memory.old.limit (effect_of product) }
+    requires may_change { MayChange memory.old }
     ensures ok { IfOk result (λ done. applied memory.old to (effect_of product)
         ≡ record { memory = memory.new; answer = answer_of done.0 }) }
     ensures grows { OnErr result (Grows memory.old to (effect_of product)) }
@@ -112,9 +116,11 @@ fn settle(
 
 /// Stores at the target what a call made of its operands, takes the target away, or hands the reply on. The value is one
 /// that `work` makes, within the limit of the memory. A refused store is a fault, and it and a want of memory leave the memory as it was.
+/// In a block there has to be a change left.
 #[inline(always)]
 pub fn apply(memory: &mut Memory, to: Option<Name>, product: Product) -> Result<Reply, OutOfMemory>
-    requires { IsFittingEffect memory.old.limit (effect_of product) }
+    requires fits { IsFittingEffect memory.old.limit (effect_of product) }
+    requires may_change { MayChange memory.old }
     ensures ok { IfOk result (λ reply. applied memory.old to (effect_of product)
         ≡ record { memory = memory.new; answer = answer_of reply }) }
     ensures grows { OnErr result (Grows memory.old to (effect_of product)) }
@@ -124,7 +130,7 @@ pub fn apply(memory: &mut Memory, to: Option<Name>, product: Product) -> Result<
     Ok(reply)
 }
 
-/// `apply`, and the vector of the value that was replaced is kept for a next result.
+/// `apply`, and the vector of the value that was replaced is kept for a next result. In a block there has to be a change left.
 #[inline(always)]
 pub fn apply_with(
     spare: &mut Spare,
@@ -132,7 +138,8 @@ pub fn apply_with(
     to: Option<Name>,
     product: Product,
 ) -> Result<Reply, OutOfMemory>
-    requires { IsFittingEffect memory.old.limit (effect_of product) }
+    requires fits { IsFittingEffect memory.old.limit (effect_of product) }
+    requires may_change { MayChange memory.old }
     ensures ok { IfOk result (λ reply. applied memory.old to (effect_of product)
         ≡ record { memory = memory.new; answer = answer_of reply }) }
     ensures grows { OnErr result (Grows memory.old to (effect_of product)) }
@@ -147,7 +154,7 @@ pub fn apply_with(
 
 /// Runs a call on a memory: `work`, and then `apply`. A fault is a reply, and it and a want of memory leave the memory as it was.
 /// `fre_fov`, `len_fov` and `ext_vuz` take no memory, and are always answered. The meter rises by one where a kernel ran: with a
-/// reply, where the call runs one and no fault of 1 to 8 was found.
+/// reply, where the call runs one and no fault of 1 to 8 was found. In a block there has to be a change left.
 pub fn step_metered(
     execution: &impl Execution,
     alloc: Global,
@@ -155,6 +162,7 @@ pub fn step_metered(
     memory: &mut Memory,
     call: &Call,
 ) -> Result<Reply, OutOfMemory>
+    requires may_change { MayChange memory.old }
     ensures ok { IfOk result (λ reply. stepped memory.old (task_of call.now)
         ≡ record { memory = memory.new; answer = answer_of reply }) }
     ensures lacks { OnErr result (MayLackMemory memory.old (task_of call.now)) }
@@ -173,7 +181,8 @@ pub fn step_metered(
 }
 
 /// `step_metered`, with vectors that were replaced and are kept for the next results. Where one operand of many integers lies at
-/// the target of a call item by item, or of a scan, the result is written over it, and takes neither memory nor what was kept.
+/// the target of a call item by item, or of a scan, the result is written over it, and takes neither memory nor what was kept; but
+/// not in a block, where the operand has to stay for an undo. In a block there has to be a change left.
 pub fn step_with(
     execution: &impl Execution,
     alloc: Global,
@@ -182,6 +191,7 @@ pub fn step_with(
     memory: &mut Memory,
     call: &Call,
 ) -> Result<Reply, OutOfMemory>
+    requires may_change { MayChange memory.old }
     ensures ok { IfOk result (λ reply. stepped memory.old (task_of call.now)
         ≡ record { memory = memory.new; answer = answer_of reply }) }
     ensures lacks { OnErr result (MayLackMemory memory.old (task_of call.now)) }
@@ -203,13 +213,14 @@ pub fn step_with(
     }
 }
 
-/// Runs a call on a memory, as `step_metered` does, and counts nothing.
+/// Runs a call on a memory, as `step_metered` does, and counts nothing. In a block there has to be a change left.
 pub fn step(
     execution: &impl Execution,
     alloc: Global,
     memory: &mut Memory,
     call: &Call,
 ) -> Result<Reply, OutOfMemory>
+    requires may_change { MayChange memory.old }
     ensures ok { IfOk result (λ reply. stepped memory.old (task_of call.now)
         ≡ record { memory = memory.new; answer = answer_of reply }) }
     ensures lacks { OnErr result (MayLackMemory memory.old (task_of call.now)) }

@@ -5,7 +5,7 @@ ghost use Rattle.std.specs.Prelude.{◌≡◌, true, IsTrue};
 ghost use Rattle.scan_kernels.specs.Metering.{raised};
 ghost use Rattle.cvl_text.specs.Answers.{answer_of};
 ghost use Rattle.cvl_text.specs.Tasks.{task_of};
-ghost use Rattle.cvl_calls.specs.Over.{GoesOver};
+ghost use Rattle.cvl_calls.specs.Over.{GoesOver, LiesAtTarget};
 ghost use Rattle.cvl_calls.specs.Steps.{runs_on, stepped};
 
 mod held;
@@ -32,7 +32,7 @@ fn count_of(judged: &Judged<'_>) -> usize {
 }
 
 /// Whether the result of a call that was judged is to be written over an operand: of many integers, of which one vector lies at
-/// its target.
+/// its target, and outside a block, which may be undone.
 #[inline(always)]
 pub(crate) fn goes_over(
     execution: &impl Execution,
@@ -44,12 +44,14 @@ pub(crate) fn goes_over(
 ) -> bool
     ensures { IsTrue result → GoesOver memory.now call.now }
 {
-    overwrites_pay(execution, spare, meter, count_of(judged)) && has_operand_at_target(memory, call)
+    overwrites_pay(execution, spare, meter, count_of(judged))
+        && has_operand_at_target(memory, call)
+        && !memory.in_block()
 }
 
 /// Whether one vector of a call lies at its target, and the other, if there are two, does not.
 fn has_operand_at_target(memory: &Memory, call: &Call) -> bool
-    ensures { IsTrue result → GoesOver memory.now call.now }
+    ensures { IsTrue result → LiesAtTarget memory.now call.now }
 {
     match call {
         Call::MapZ2 { op, to, a, b } => {

@@ -1,5 +1,7 @@
 //! Scripts call by call: on a book, and on a plain memory.
 
+ghost use Rattle.std.specs.Prelude.{◌≡◌, None};
+
 use crate::replay::{Told, is_told_right};
 use crate::script::{CALLERS, Script};
 use crate::texts::{call_text, memory_text, text_of};
@@ -31,9 +33,15 @@ pub(crate) fn run_lines(
 }
 
 /// Whether a memory replies to a line what was told of it.
-fn replies(alloc: Global, memory: &mut Memory, line: &str, told: &Told) -> Option<bool> {
+#[tactic(auto, using(cvl_calls::proofs::BlockSteps::outside_may_change))]
+fn replies(alloc: Global, memory: &mut Memory, line: &str, told: &Told) -> Option<bool>
+    requires { memory.old.block ≡ None }
+    ensures { memory.new.block ≡ None }
+{
     let call = Call::read(alloc, line.as_bytes()).ok()?;
-    let reply = step(&Sequential, alloc, memory, &call).ok()?;
+    let Ok(reply) = step(&Sequential, alloc, memory, &call) else {
+        return None;
+    };
     Some(text_of(alloc, &reply)? == told.reply)
 }
 

@@ -1,7 +1,8 @@
 //! Scripts in batches, all of one length that chance chose.
 
 ghost use Rattle.std.specs.Prelude.{◌≡◌, ◌≤◌, IfSome, length, map, vec_len};
-ghost use Rattle.std.specs.List.{range_with_len};
+ghost use Rattle.std.specs.List.{AllByRecursion, range_with_len};
+ghost use Rattle.call_history.specs.Fits.{IsLawfulJob};
 ghost use Rattle.batch_flatten.specs.Serving.{caller_of};
 
 use crate::alone::{book_of, run_lines};
@@ -9,7 +10,7 @@ use crate::chance::Chance;
 use crate::replay::{Told, is_told_right};
 use crate::script::Script;
 use crate::texts::line_text;
-use batch_flatten::{BATCH_LIMIT, Outcome, Request, run_batch};
+use batch_flatten::{BATCH_LIMIT, Job, Outcome, Request, run_batch};
 use call_history::Book;
 use cvl_text::Call;
 use scan_kernels::{Meter, Sequential};
@@ -19,6 +20,7 @@ use std::alloc::Global;
 fn batch_of(alloc: Global, lines: &[&str]) -> Option<Vec<Request>>
     ensures few { IfSome result (λ requests. vec_len requests ≤ BATCH_LIMIT) }
     ensures callers { IfSome result (λ requests. map caller_of requests.items ≡ range_with_len 0 (length requests.items)) }
+    ensures jobs { IfSome result (λ requests. AllByRecursion (λ r. IsLawfulJob r.job) requests.items) }
 {
     let mut requests = Vec::new(alloc);
     for line in lines {
@@ -27,7 +29,8 @@ fn batch_of(alloc: Global, lines: &[&str]) -> Option<Vec<Request>>
         }
         let call = Call::read(alloc, line.as_bytes()).ok()?;
         let caller = requests.len() as u64;
-        requests.push(Request { caller, call }).ok()?;
+        let job = Job::One(call);
+        requests.push(Request { caller, job }).ok()?;
     }
     Some(requests)
 }

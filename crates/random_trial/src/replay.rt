@@ -41,12 +41,15 @@ impl Told {
 }
 
 /// What is told of each place of a book's history, where a plain memory runs it call by call, and what that memory holds then.
+#[tactic(auto, using(cvl_calls::proofs::BlockSteps::outside_may_change, cvl_calls::proofs::BlockSteps::steps_outside))]
 fn replayed(alloc: Global, book: &Book) -> Option<(Vec<Told>, Vec<u8>)> {
     let mut told = Vec::new(alloc);
     let mut memory = Memory::new(alloc, book.room()).ok()?;
     for place in 0..book.len() {
         let entry = book.entry(place);
-        let reply = step(&Sequential, alloc, &mut memory, &entry.call).ok()?;
+        let Ok(reply) = step(&Sequential, alloc, &mut memory, &entry.call) else {
+            return None;
+        };
         let call = call_text(alloc, &entry.call)?;
         told.push(Told::new(alloc, entry.caller, call, place as u64, &reply)?)
             .ok()?;

@@ -1,6 +1,6 @@
 -- A caller's own steps keep the rule: it posts, and it collects.
 -- `posts` and `collects` are what the table asks of the two steps.
-use Rattle.std.proofs.Common.{◌≡◌, ◌≢◌, ℕ, ◌+◌, ◌<◌, Bool, true, false, List, [], ◌∷◌, ◌++◌, length, take, get_or, eqb, None, refl, sym, ap, ◌∙◌, subst, ⊎_elim, inl, arith, eq-eqb, ne_eqb}
+use Rattle.std.proofs.Common.{◌≡◌, ◌≢◌, ℕ, ◌+◌, ◌<◌, Bool, true, false, List, ◌∷◌, ◌++◌, length, take, get_or, eqb, None, refl, sym, ap, ◌∙◌, subst, ⊎_elim, inl, arith, eq-eqb, ne_eqb}
 use mathlib.Core.Logic.{dite}
 use mathlib.Core.Option.{some, none}
 use native.Mathlib.Decide.{ℕ_discrete}
@@ -10,9 +10,12 @@ use Rattle.atomic_table.specs.Table.{State, step, keeps, takes, gives, stepped, 
 use Rattle.atomic_table.proofs.Lists.{set_again}
 use Rattle.cvl_text.specs.declared.call.Call.{Call}
 use Rattle.call_history.specs.declared.entry.Entry.{Entry}
+use Rattle.call_history.specs.declared.request.Job.{Job}
+use Rattle.call_history.specs.declared.request.Outcome.{Outcome}
 use Rattle.call_history.specs.History.{Begins}
 use Rattle.call_history.specs.Callers.{calls_by}
-use Rattle.call_history.specs.Fits.{Fate, StandsAt, CameBack, fate_of}
+use Rattle.call_history.specs.Blocks.{Whole}
+use Rattle.call_history.specs.Fits.{calls_of, IsLawfulJob, Fate, StandsAt, CameBack, fate_of, IsOfJob}
 use Rattle.call_history.proofs.Beginnings.{begins_self, begins_empty, take_begins, length_of_take}
 use Rattle.call_history.proofs.CallerLemmas.{calls_stay, calls_between}
 use Rattle.request_slots.specs.declared.desk.Slot.{Slot}
@@ -27,14 +30,14 @@ use Rattle.request_slots.specs.Locks.{HolderSits}
 use Rattle.request_slots.specs.Requests.{StageHolds, FateHolds, request_at}
 use Rattle.request_slots.specs.Phases.{PhaseHolds}
 use Rattle.request_slots.specs.Lawful.{CallerKnows, Knows, Lawful}
-use Rattle.request_slots.specs.Standing.{Standing, left_calls, IsLeft}
-use Rattle.request_slots.specs.Changes.{longer, leaving_calls, leaving, Collected}
+use Rattle.request_slots.specs.Standing.{Standing, left_calls, left_job, IsLeft}
+use Rattle.request_slots.specs.Changes.{longer, leaving_job, Collected}
 use Rattle.request_slots.specs.Views.{with_standing, known_of}
-use Rattle.request_slots.specs.Events.{Sat, calls_in_hand, Posts, Collects}
+use Rattle.request_slots.specs.Events.{Sat, job_in_hand, Posts, Collects}
 use Rattle.request_slots.proofs.Stations.{put, put_here, put_rises, put_abides, put_seat, notes_rise, others_know}
 use Rattle.request_slots.proofs.Holders.{holder_follows}
 use Rattle.request_slots.proofs.Carrying.{caller_step, view_step, moved}
-use Rattle.request_slots.proofs.Looking.{longer_begins, not_true, begins_of_callers}
+use Rattle.request_slots.proofs.Looking.{longer_begins, longer_whole, not_true, begins_of_callers}
 
 code_done : (stage : Stage) → code stage ≡ 4 → stage ≡ done
 code_done unmade e = absurd (omega arith)
@@ -56,9 +59,9 @@ module _ (room : ℕ) (s : State Slot View) (r : Lawful room s) (id : ℕ) (c : 
   idle_word : c.standing.phase ≡ Idle → get_or s.words (own_word c.standing.number) 0 ≡ 1
   idle_word at_rest = let phase = subst (PhaseHolds c.standing.number c.standing.seen c.standing.own here) at_rest knows.phase in (r.each_caller c.standing.number inside).word_is ∙ ap code phase.stage_is
 
-  -- the station of a caller that leaves these calls
-  abbrev posted_station : List Call → Station
-  posted_station calls = record { stage = posted; seat = here.seat; own = here.own; calls = calls; start = c.standing.seen; held = here.held }
+  -- the station of a caller that leaves this job
+  abbrev posted_station : Job → Station
+  posted_station job = record { stage = posted; seat = here.seat; own = here.own; job = job; start = c.standing.seen; held = here.held }
 
   -- the seats other than the caller's, after a step that moves only its own station
   abbrev others_stay : (st : Station) → ((r.station c.standing.number).held ≡ true → st.held ≡ true)
@@ -66,49 +69,49 @@ module _ (room : ℕ) (s : State Slot View) (r : Lawful room s) (id : ℕ) (c : 
   others_stay st up = others_know room r.n r.made r.line r.line r.lock r.lock r.station (put r.station c.standing.number st) c.standing.number id knows.seat_is (begins_self r.line) (λ i other. refl)
       (put_abides r.station c.standing.number st) (put_rises r.station c.standing.number st up)
 
-  post_keeps : (call : Call) → c.standing.phase ≡ Idle → c.pass ≡ None → Lawful room (moved s c.standing.number 2 (some (Asked call)) id (Caller (with_standing c (leaving c.standing call))))
-  post_keeps call at_rest no_pass =
-      let st : Station = posted_station (call ∷ []) in
+  post_keeps : (job : Job) → IsLawfulJob job → c.standing.phase ≡ Idle → c.pass ≡ None → Lawful room (moved s c.standing.number 2 (some (Asked job)) id (Caller (with_standing c (leaving_job c.standing job))))
+  post_keeps job lawful at_rest no_pass =
+      let st : Station = posted_station job in
       let held = r.each_caller c.standing.number inside in
       let phase = subst (PhaseHolds c.standing.number c.standing.seen c.standing.own here) at_rest knows.phase in
       let stage = subst (StageHolds room r.line (part_of r.lock c.standing.number) (get_elem? s.homes (c.standing.number + 1)) c.standing.number here) phase.stage_is held.stage_holds in
       let rises = put_rises r.station c.standing.number st (λ e. e) in
-      caller_step room s r c.standing.number 2 (some (Asked call)) st r.lock id (Caller c) (Caller (with_standing c (leaving c.standing call))) inside knows.number_made there refl refl (λ i other. refl)
+      caller_step room s r c.standing.number 2 (some (Asked job)) st r.lock id (Caller c) (Caller (with_standing c (leaving_job c.standing job))) inside knows.number_made there refl refl (λ i other. refl)
       record {
         word_is = refl;
-        request_is = held.request_is ∙ ap (λ (z : Stage). request_at z here.calls) phase.stage_is;
-        stage_holds = record { call = call; home_is = refl; calls_are = refl; begins = knows.fronts.seen_begins; own_is = stage.own_is };
+        request_is = held.request_is ∙ ap (λ (z : Stage). request_at z here.job) phase.stage_is;
+        stage_holds = record { home_is = refl; lawful = lawful; begins = knows.fronts.seen_begins; own_is = stage.own_is };
       }
       r.lock_holds
-      (subst (λ (z : Station). CallerKnows room r.n r.made r.line (pass_of r.lock c.standing.number) z (λ m. (put r.station c.standing.number st m).held) id (with_standing c (leaving c.standing call))) (sym (put_here r.station c.standing.number st)) record {
+      (subst (λ (z : Station). CallerKnows room r.n r.made r.line (pass_of r.lock c.standing.number) z (λ m. (put r.station c.standing.number st m).held) id (with_standing c (leaving_job c.standing job))) (sym (put_here r.station c.standing.number st)) record {
         number_made = knows.number_made;
         inside = knows.inside;
         seat_is = knows.seat_is;
         room_is = knows.room_is;
         own_is = knows.own_is;
-        fronts = record { seen_begins = knows.fronts.seen_begins; told_begins = knows.fronts.told_begins; start_begins = knows.fronts.seen_begins };
+        fronts = record { seen_begins = knows.fronts.seen_begins; told_begins = knows.fronts.told_begins; start_begins = knows.fronts.seen_begins; seen_whole = knows.fronts.seen_whole; told_whole = knows.fronts.told_whole };
         pass_is = knows.pass_is;
-        phase = record { left = refl; calls_are = refl; start_is = refl; begins = begins_self c.standing.seen; own_is = inl phase.own_is; request = refl };
+        phase = record { left = refl; job_is = refl; start_is = refl; begins = begins_self c.standing.seen; own_is = inl phase.own_is; lawful = lawful };
         settled = record { done = λ e. absurd (cc (knows.settled.done e, phase.stage_is)); tried = λ p e _ _. absurd (cc (e, no_pass)) };
         notes = notes_rise r.n c.standing.number c.standing.held here.held here.held c.standing.met c.pass (λ m. (r.station m).held) (λ m. (put r.station c.standing.number st m).held) refl rises knows.notes;
       })
       (others_stay st (λ e. e))
-      (holder_follows s.views r.station (put r.station c.standing.number st) r.lock id c (with_standing c (leaving c.standing call)) there refl (put_seat r.station c.standing.number st refl) knows.seat_is knows.pass_is r.holder_sits)
+      (holder_follows s.views r.station (put r.station c.standing.number st) r.lock id c (with_standing c (leaving_job c.standing job)) there refl (put_seat r.station c.standing.number st refl) knows.seat_is knows.pass_is r.holder_sits)
 
   -- where the caller stands once it has its outcome
   abbrev collected : List Entry → List Call → Standing
   collected seen own = record c.standing { seen = seen; own = own; phase = Idle; settled = false }
 
-  collect_keeps : (seen : List Entry) (own : List Call) → here.stage ≡ done → Begins seen r.line → calls_by c.standing.number seen ≡ own → calls_by c.standing.number r.line ≡ own
+  collect_keeps : (seen : List Entry) (own : List Call) → here.stage ≡ done → Begins seen r.line → Whole seen → calls_by c.standing.number seen ≡ own → calls_by c.standing.number r.line ≡ own
       → Lawful room (moved s c.standing.number 1 none id (Caller (with_standing c (collected seen own))))
-  collect_keeps seen own at_end saw had has =
-      let st : Station = record { stage = idle; seat = here.seat; own = own; calls = here.calls; start = here.start; held = here.held } in
+  collect_keeps seen own at_end saw whole had has =
+      let st : Station = record { stage = idle; seat = here.seat; own = own; job = here.job; start = here.start; held = here.held } in
       let held = r.each_caller c.standing.number inside in
       let rises = put_rises r.station c.standing.number st (λ e. e) in
       caller_step room s r c.standing.number 1 none st r.lock id (Caller c) (Caller (with_standing c (collected seen own))) inside knows.number_made there refl refl (λ i other. refl)
       record {
         word_is = refl;
-        request_is = held.request_is ∙ ap (λ (z : Stage). request_at z here.calls) at_end;
+        request_is = held.request_is ∙ ap (λ (z : Stage). request_at z here.job) at_end;
         stage_holds = record { home_is = refl; own_is = has };
       }
       r.lock_holds
@@ -118,7 +121,7 @@ module _ (room : ℕ) (s : State Slot View) (r : Lawful room s) (id : ℕ) (c : 
         seat_is = knows.seat_is;
         room_is = knows.room_is;
         own_is = refl;
-        fronts = record { seen_begins = saw; told_begins = knows.fronts.told_begins; start_begins = begins_empty r.line };
+        fronts = record { seen_begins = saw; told_begins = knows.fronts.told_begins; start_begins = begins_empty r.line; seen_whole = whole; told_whole = knows.fronts.told_whole };
         pass_is = knows.pass_is;
         phase = record { stage_is = refl; own_is = had };
         settled = record { done = λ e. absurd (cc e); tried = λ p e _ post. absurd (cc post) };
@@ -127,46 +130,55 @@ module _ (room : ℕ) (s : State Slot View) (r : Lawful room s) (id : ℕ) (c : 
       (others_stay st (λ e. e))
       (holder_follows s.views r.station (put r.station c.standing.number st) r.lock id c (with_standing c (collected seen own)) there refl (put_seat r.station c.standing.number st refl) knows.seat_is knows.pass_is r.holder_sits)
 
-  -- the outcome of the calls that were left gives the caller's new front and record
-  collect_fate : IsLeft c.standing → (fate : Fate) → FateHolds room r.line c.standing.number here.own here.calls here.start fate
-      → (seen : List Entry) × (own : List Call) × Begins seen r.line × (calls_by c.standing.number seen ≡ own) × (calls_by c.standing.number r.line ≡ own) × Collected c.standing fate (collected seen own)
+  -- the outcome of the job that was left gives the caller's new front and record
+  collect_fate : IsLeft c.standing → (fate : Fate) → FateHolds room r.line c.standing.number here.own (calls_of here.job) here.start fate
+      → (seen : List Entry) × (own : List Call) × Begins seen r.line × Whole seen × (calls_by c.standing.number seen ≡ own) × (calls_by c.standing.number r.line ≡ own) × Collected c.standing fate (collected seen own)
   collect_fate is (StandsAt place replies) h =
       let calls : List Call = left_calls c.standing.phase in
       let phase = subst (PhaseHolds c.standing.number c.standing.seen c.standing.own here) is knows.phase in
+      let same_calls : calls_of here.job ≡ calls = ap calls_of (sym phase.job_is) ∙ sym (ap left_calls is) in
       let f = subst (λ (z : ℕ × List Call × (List Call) × List Entry). FateHolds z.0 r.line c.standing.number z.1 z.2 z.3 (StandsAt place replies))
-      (λ j. (sym knows.room_is j, sym knows.own_is j, sym phase.calls_are j, sym phase.start_is j)) h in
+      (λ j. (sym knows.room_is j, sym knows.own_is j, same_calls j, sym phase.start_is j)) h in
       let history : List Entry = take (place + length calls) r.line in
       let both = longer_begins c.standing.seen history r.line knows.fronts.seen_begins (take_begins (place + length calls) r.line) in (
         longer c.standing.seen history,
         c.standing.own ++ calls,
         both.2,
+        longer_whole c.standing.seen history knows.fronts.seen_whole f.1.whole,
         calls_between c.standing.number history (longer c.standing.seen history) r.line (c.standing.own ++ calls) both.1 both.2 f.1.owns f.2,
         f.2,
         (history, length_of_take (place + length calls) r.line f.0, f.1, both.0, both.1, refl),
       )
   collect_fate is (CameBack back) h =
-      let calls : List Call = left_calls c.standing.phase in
       let phase = subst (PhaseHolds c.standing.number c.standing.seen c.standing.own here) is knows.phase in
+      let calls : List Call = calls_of (left_job c.standing.phase) in
       let none_new : calls_by c.standing.number r.line ≡ c.standing.own = h.1 ∙ sym knows.own_is in (
         c.standing.seen,
         c.standing.own,
         knows.fronts.seen_begins,
+        knows.fronts.seen_whole,
         ⊎_elim (λ (e : calls_by c.standing.number c.standing.seen ≡ c.standing.own). e) (λ (e : calls_by c.standing.number c.standing.seen ≡ c.standing.own ++ calls). calls_stay c.standing.number c.standing.seen r.line c.standing.own calls knows.fronts.seen_begins e none_new) phase.own_is,
         none_new,
-        (h.0 ∙ sym phase.calls_are, refl),
+        (h.0 ∙ (ap calls_of (sym phase.job_is) ∙ sym (ap left_calls is)), refl),
       )
 
-posts_at : (room slots id : ℕ) (me : Sat) (call : Call) → let c : Known = known_of me.0 in me.0 ≡ Caller c → c.standing.phase ≡ Idle → c.pass ≡ None → me.1 ≡ (c.standing.number + 1, Asked call) ∷ rest me.1
+  -- and it is of the kind of the job
+  collect_kind : IsLeft c.standing → (o : Outcome) → IsOfJob here.job o → IsOfJob (left_job c.standing.phase) o
+  collect_kind is o h =
+      let phase = subst (PhaseHolds c.standing.number c.standing.seen c.standing.own here) is knows.phase in
+      subst (λ (z : Job). IsOfJob z o) (sym phase.job_is) h
+
+posts_at : (room slots id : ℕ) (me : Sat) (job : Job) → IsLawfulJob job → let c : Known = known_of me.0 in me.0 ≡ Caller c → c.standing.phase ≡ Idle → c.pass ≡ None → me.1 ≡ (c.standing.number + 1, Asked job) ∷ rest me.1
     → Allows (Lawful room) slots id me (own_word c.standing.number) (λ x. either (eqb x 1) 2 x) (Posts (step slots (own_word c.standing.number) 1 2 none) me)
-posts_at room slots id me call is at_rest no_pass hand s r deep at small =
+posts_at room slots id me job lawful is at_rest no_pass hand s r deep at small =
     let c : Known = known_of me.0 in let i : ℕ = own_word c.standing.number in let x : ℕ = get_or s.words i 0 in
     let there : get_elem? s.views id ≡ some (Caller c) = at ∙ ap (λ (v : View). some v) is in
     let found : x ≡ 1 = idle_word room s r id c there at_rest in (
-      Caller (with_standing c (leaving_calls c.standing (calls_in_hand me.1))),
+      Caller (with_standing c (leaving_job c.standing (job_in_hand me.1))),
       gives,
       tt,
-      subst (λ (z : Bool × List (ℕ × Slot)). Lawful room (stepped s i (either z.0 2 x) id z.1 (Caller (with_standing c (leaving_calls c.standing (calls_in_hand z.1)))) gives))
-          (λ j. (sym (eq-eqb x 1 found) j, sym hand j)) (post_keeps room s r id c there call at_rest no_pass),
+      subst (λ (z : Bool × List (ℕ × Slot)). Lawful room (stepped s i (either z.0 2 x) id z.1 (Caller (with_standing c (leaving_job c.standing (job_in_hand z.1)))) gives))
+          (λ j. (sym (eq-eqb x 1 found) j, sym hand j)) (post_keeps room s r id c there job lawful at_rest no_pass),
       (found, refl, refl),
     )
 
@@ -180,13 +192,14 @@ collects_at room slots id me is left s r deep at small =
     dite (ℕ_discrete x 4)
     (λ hit. let at_end = code_done (r.station c.standing.number).stage (sym held.word_is ∙ hit) in
     let told = subst (StageHolds room r.line (part_of r.lock c.standing.number) (get_elem? s.homes (c.standing.number + 1)) c.standing.number (r.station c.standing.number)) at_end held.stage_holds in
-    let new = collect_fate room s r id c there left (fate_of told.outcome) told.fate in (
+    let new = collect_fate room s r id c there left (fate_of told.outcome) told.fate in
+    let kind = collect_kind room s r id c there left told.outcome told.of_job in (
       Caller (with_standing c (collected room s r id c there new.0 new.1)),
       takes (c.standing.number + 1) (Told told.outcome),
       told.home_is,
       subst (λ b. Lawful room (stepped s i (either b 1 x) id me.1 (Caller (with_standing c (collected room s r id c there new.0 new.1))) (takes (c.standing.number + 1) (Told told.outcome)))) (sym (eq-eqb x 4 hit))
-          (collect_keeps room s r id c there new.0 new.1 at_end new.2 new.3 new.4),
-      ((λ _. (told.outcome, collected room s r id c there new.0 new.1, refl, refl, new.5, ((λ _. (new.3, refl)), begins_of_callers slots r.n new.0 r.line (sym deep ∙ r.deep) new.2 r.line_holds.no_strangers))), λ miss. absurd (miss hit)),
+          (collect_keeps room s r id c there new.0 new.1 at_end new.2 new.3 new.4 new.5),
+      ((λ _. (told.outcome, collected room s r id c there new.0 new.1, refl, refl, new.6, ((λ _. (new.4, refl)), begins_of_callers slots r.n new.0 r.line (sym deep ∙ r.deep) new.2 r.line_holds.no_strangers, new.3), kind)), λ miss. absurd (miss hit)),
     ))
     (λ miss. (
       me.0,
@@ -197,13 +210,13 @@ collects_at room slots id me is left s r deep at small =
       ((λ hit. absurd (miss hit)), λ _. (refl, not_true c.standing.settled (λ e. miss (held.word_is ∙ ap code (knows.settled.done e))))),
     ))
 
--- the same for a caller of this number, which has put its call into its slot
-pub posts : (room slots id k : ℕ) (old me : Sat) (call : Call) → me ≡ (old.0, (k + 1, Asked call) ∷ rest old.1) → old.0 ≡ Caller (known_of old.0) → (known_of old.0).standing.number ≡ k
+-- the same for a caller of this number, which has put its job into its slot
+pub posts : (room slots id k : ℕ) (old me : Sat) (job : Job) → IsLawfulJob job → me ≡ (old.0, (k + 1, Asked job) ∷ rest old.1) → old.0 ≡ Caller (known_of old.0) → (known_of old.0).standing.number ≡ k
     → (known_of old.0).standing.phase ≡ Idle → (known_of old.0).pass ≡ None → Allows (Lawful room) slots id me (own_word k) (λ x. either (eqb x 1) 2 x) (Posts (step slots (own_word k) 1 2 none) me)
-posts room slots id k old me call put is number at_rest no_pass =
+posts room slots id k old me job lawful put is number at_rest no_pass =
     subst (λ (m : Sat). Allows (Lawful room) slots id m (own_word k) (λ x. either (eqb x 1) 2 x) (Posts (step slots (own_word k) 1 2 none) m)) (sym put)
-    (subst (λ (z : ℕ). Allows (Lawful room) slots id (old.0, (z + 1, Asked call) ∷ rest old.1) (own_word z) (λ x. either (eqb x 1) 2 x) (Posts (step slots (own_word z) 1 2 none) (old.0, (z + 1, Asked call) ∷ rest old.1)))
-    number (posts_at room slots id (old.0, ((known_of old.0).standing.number + 1, Asked call) ∷ rest old.1) call is at_rest no_pass refl))
+    (subst (λ (z : ℕ). Allows (Lawful room) slots id (old.0, (z + 1, Asked job) ∷ rest old.1) (own_word z) (λ x. either (eqb x 1) 2 x) (Posts (step slots (own_word z) 1 2 none) (old.0, (z + 1, Asked job) ∷ rest old.1)))
+    number (posts_at room slots id (old.0, ((known_of old.0).standing.number + 1, Asked job) ∷ rest old.1) job lawful is at_rest no_pass refl))
 
 pub collects : (room slots id k : ℕ) (me : Sat) → me.0 ≡ Caller (known_of me.0) → (known_of me.0).standing.number ≡ k → IsLeft (known_of me.0).standing
     → Allows (Lawful room) slots id me (own_word k) (λ x. either (eqb x 4) 1 x) (Collects (step slots (own_word k) 4 1 none) me)

@@ -30,7 +30,7 @@ seats_after F F' views me w mine others all j v e =
 
 -- a station at which it is known whether the caller ever had the desk
 abbrev pub noted : Station → Bool → Station
-noted s held = record { stage = s.stage; seat = s.seat; own = s.own; calls = s.calls; start = s.start; held = held }
+noted s held = record { stage = s.stage; seat = s.seat; own = s.own; job = s.job; start = s.start; held = held }
 
 -- A caller of whom a pass has nothing does not see which pass it is
 pub part_free : (room : ℕ) (line : List Entry) (part part' : Part) (word : ℕ) (home : Home) (k : ℕ) (s : Station) (held : Bool) → part.request ≡ None → part'.request ≡ None
@@ -41,7 +41,7 @@ part_free room line part part' word home k s held nothing nothing' h = record {
   stage_holds = go s.stage (sym nothing ∙ h.request_is) h.stage_holds;
 }
   where
-    go : (stage : Stage) → None ≡ request_at stage s.calls → StageHolds room line part home k s stage → StageHolds room line part' home k (noted s held) stage
+    go : (stage : Stage) → None ≡ request_at stage s.job → StageHolds room line part home k s stage → StageHolds room line part' home k (noted s held) stage
     go unmade e t = t
     go idle e t = t
     go posted e t = t
@@ -90,7 +90,7 @@ caller_step room s r i x y st lock me v w inside made there same seat parts here
       wide = length-set s.words (own_word i) x ∙ r.wide;
       deep = length-set s.homes (i + 1) y ∙ r.deep;
       not_made = λ k above. subst IsNotMade (sym (put_else r.station i st k (λ e. omega arith))) (r.not_made k above);
-      line_holds = record { length_is = get_or-set_other s.words (own_word i) length_word x 0 (λ e. omega arith) ∙ r.line_holds.length_is; no_strangers = r.line_holds.no_strangers };
+      line_holds = record { length_is = get_or-set_other s.words (own_word i) length_word x 0 (λ e. omega arith) ∙ r.line_holds.length_is; whole = r.line_holds.whole; no_strangers = r.line_holds.no_strangers };
       lock_holds = subst (λ (z : ℕ × Home). LockHolds room r.n r.line z.0 z.1 lock)
           (λ j. (sym (get_or-set_other s.words (own_word i) 0 x 0 (λ e. omega arith)) j, sym (set_else s.homes (i + 1) 0 y (λ e. omega arith)) j)) locked;
       holder_sits = holder;
@@ -151,7 +151,7 @@ lock_step room s r x y station lock me v w there same seats_are above locked cal
       wide = length-set s.words 0 x ∙ r.wide;
       deep = length-set s.homes 0 y ∙ r.deep;
       not_made = above;
-      line_holds = record { length_is = get_or-set_other s.words 0 length_word x 0 (λ e. omega arith) ∙ r.line_holds.length_is; no_strangers = r.line_holds.no_strangers };
+      line_holds = record { length_is = get_or-set_other s.words 0 length_word x 0 (λ e. omega arith) ∙ r.line_holds.length_is; whole = r.line_holds.whole; no_strangers = r.line_holds.no_strangers };
       lock_holds = let wide = r.wide in let deep = r.deep in subst (λ (z : ℕ × Home). LockHolds room r.n r.line z.0 z.1 lock)
           (λ j. (sym (get_or-set_same s.words 0 x 0 (omega arith)) j, sym (set_here s.homes 0 y (omega arith)) j)) locked;
       holder_sits = holder;

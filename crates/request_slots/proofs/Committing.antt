@@ -9,8 +9,9 @@ use Rattle.call_history.specs.declared.entry.Entry.{Entry}
 use Rattle.call_history.specs.declared.request.Outcome.{Outcome}
 use Rattle.call_history.specs.History.{Begins}
 use Rattle.call_history.specs.Callers.{calls_by}
+use Rattle.call_history.specs.Blocks.{Whole}
 use Rattle.call_history.specs.Answers.{Answers}
-use Rattle.call_history.specs.Fits.{Fate, StandsAt, CameBack, fate_of, outcome_by, Fits, FitsCaller, FitsFate}
+use Rattle.call_history.specs.Fits.{calls_of, Fate, StandsAt, CameBack, fate_of, outcome_by, Fits, FitsCaller, FitsFate}
 use Rattle.call_history.proofs.Beginnings.{begins_trans, begins_length, take_grown}
 use Rattle.call_history.proofs.Serving.{answers-from_serves}
 use Rattle.request_slots.specs.declared.desk.Slot.{Slot}
@@ -58,21 +59,22 @@ caller_commits room line line' part outcome word home k s open_yet before_is gre
   stage_holds = go s.stage (subst (λ q. FitsCaller room line line' k q outcome) h.request_is fits) h.stage_holds;
 }
   where
-    go : (stage : Stage) → FitsCaller room line line' k (request_at stage s.calls) outcome → StageHolds room line part home k s stage → StageHolds room line' (committed_part part outcome) home k s stage
+    go : (stage : Stage) → FitsCaller room line line' k (request_at stage s.job) outcome → StageHolds room line part home k s stage → StageHolds room line' (committed_part part outcome) home k s stage
     go unmade f t = record { home_is = t.home_is; no_calls = f ∙ t.no_calls; own_is = t.own_is }
     go idle f t = record { home_is = t.home_is; own_is = f ∙ t.own_is }
-    go posted f t = record { call = t.call; home_is = t.home_is; calls_are = t.calls_are; begins = begins_trans s.start line line' t.begins grew; own_is = f ∙ t.own_is }
+    go posted f t = record { home_is = t.home_is; lawful = t.lawful; begins = begins_trans s.start line line' t.begins grew; own_is = f ∙ t.own_is }
     go taken f t = record {
       home_is = t.home_is;
       begins = t.begins;
       served = (
         f.0,
         f.1,
-        fate_fits room line line' k s.own s.calls s.start (fate_of f.0) (subst (Begins s.start) before_is t.begins) grew
-            (subst (ServedHolds room line part.outcome k s.own s.calls s.start) open_yet t.served) f.2,
+        f.2,
+        fate_fits room line line' k s.own (calls_of s.job) s.start (fate_of f.0) (subst (Begins s.start) before_is t.begins) grew
+            (subst (ServedHolds room line part.outcome k s.own s.job s.start) open_yet t.served) f.3,
       );
     }
-    go done f t = record { outcome = t.outcome; home_is = t.home_is; fate = fate_grows room line line' k s.own s.calls s.start (fate_of t.outcome) grew f t.fate }
+    go done f t = record { outcome = t.outcome; home_is = t.home_is; of_job = t.of_job; fate = fate_grows room line line' k s.own (calls_of s.job) s.start (fate_of t.outcome) grew f t.fate }
 
 module _ (room : ℕ) (s : State Slot View) (r : Lawful room s) (id : ℕ) (c : Known) (there : get_elem? s.views id ≡ some (Caller c)) (p : Pass) (has : c.pass ≡ Some p) where
   abbrev knows : Knows room r.n r.made r.line r.lock r.station id (Caller c)
@@ -82,9 +84,9 @@ module _ (room : ℕ) (s : State Slot View) (r : Lawful room s) (id : ℕ) (c : 
   rule = mine room s r id c there p has
 
   -- the line becomes the history of the batch
-  commit_keeps : (line' : List Entry) (outcomes : List Outcome) → p.committed ≡ false → ((i : ℕ) → i < r.n → is_in p.tried i ≡ true) → Fits room p.line p.taken line' outcomes
+  commit_keeps : (line' : List Entry) (outcomes : List Outcome) → p.committed ≡ false → ((i : ℕ) → i < r.n → is_in p.tried i ≡ true) → Fits room p.line p.taken line' outcomes → Whole line'
       → Lawful room record { words = set s.words length_word (length line'); homes = s.homes; views = set s.views id (Caller (committing c p line' outcomes)) }
-  commit_keeps line' outcomes open_yet all fits =
+  commit_keeps line' outcomes open_yet all fits whole =
       let p' : Pass = commits p line' outcomes in
       let pass = holds_pass room s r id c there p has in
       let abide : (m : ℕ) → Abides (r.station m) (r.station m) = λ m. abides_self (r.station m) in
@@ -105,6 +107,7 @@ module _ (room : ℕ) (s : State Slot View) (r : Lawful room s) (id : ℕ) (c : 
         not_made = r.not_made;
         line_holds = record {
           length_is = get_or-set_same s.words length_word (length line') 0 (omega arith);
+          whole = whole;
           no_strangers = λ k far. subst (λ q. FitsCaller room r.line line' k q (outcome_by k p.taken outcomes)) (pass.of_callers k far) (fitting.each k) ∙ r.line_holds.no_strangers k far;
         };
         lock_holds = record {
@@ -131,9 +134,9 @@ module _ (room : ℕ) (s : State Slot View) (r : Lawful room s) (id : ℕ) (c : 
 
 pub commits_line : (room slots id : ℕ) (me : Sat) (line : List Entry) (outcomes : List Outcome) → me.0 ≡ Caller (known_of me.0) → (known_of me.0).pass ≡ Some (pass_in (known_of me.0))
     → (pass_in (known_of me.0)).committed ≡ false → ((i : ℕ) → i + 1 < slots → is_in (pass_in (known_of me.0)).tried i ≡ true)
-    → Fits (known_of me.0).standing.room (pass_in (known_of me.0)).line (pass_in (known_of me.0)).taken line outcomes
+    → Fits (known_of me.0).standing.room (pass_in (known_of me.0)).line (pass_in (known_of me.0)).taken line outcomes → Whole line
     → Allows (Lawful room) slots id me length_word (λ _. length line) (λ _. Commits line outcomes (step slots length_word (length line) 0 none) me (length line))
-commits_line room slots id me line outcomes is has open_yet all fits s r deep at small =
+commits_line room slots id me line outcomes is has open_yet all fits whole s r deep at small =
     let c : Known = known_of me.0 in
     let there : get_elem? s.views id ≡ some (Caller c) = at ∙ ap (λ (v : View). some v) is in
     let knows = r.each_seat id (Caller c) there in
@@ -142,6 +145,6 @@ commits_line room slots id me line outcomes is has open_yet all fits s r deep at
       keeps,
       tt,
       commit_keeps room s r id c there (pass_in c) has line outcomes open_yet (λ i near. all i (omega arith))
-          (subst (λ (z : ℕ). Fits z (pass_in c).line (pass_in c).taken line outcomes) knows.room_is fits),
+          (subst (λ (z : ℕ). Fits z (pass_in c).line (pass_in c).taken line outcomes) knows.room_is fits) whole,
       refl,
     )

@@ -10,7 +10,8 @@ use Rattle.cvl_text.specs.declared.call.Call.{Call}
 use Rattle.call_history.specs.declared.entry.Entry.{Entry}
 use Rattle.call_history.specs.History.{Begins}
 use Rattle.call_history.specs.Callers.{calls_by}
-use Rattle.call_history.specs.Fits.{fate_of}
+use Rattle.call_history.specs.Blocks.{Whole}
+use Rattle.call_history.specs.Fits.{calls_of, fate_of}
 use Rattle.call_history.proofs.Beginnings.{begins_self, begins_trans}
 use Rattle.request_slots.specs.declared.desk.Slot.{Slot}
 use Rattle.request_slots.specs.declared.known.Pass.{Pass}
@@ -35,19 +36,19 @@ use Rattle.request_slots.proofs.Passing.{mine, locked}
 
 -- a station with another record
 abbrev recorded : Station → List Call → Station
-recorded s own = record { stage = s.stage; seat = s.seat; own = own; calls = s.calls; start = s.start; held = s.held }
+recorded s own = record { stage = s.stage; seat = s.seat; own = own; job = s.job; start = s.start; held = s.held }
 
 -- a caller that has no more calls in a longer line, while a pass has taken nothing
 caller_stands : (room h : ℕ) (line line' : List Entry) (word : ℕ) (home : Home) (k : ℕ) (s : Station) → Begins line line' → calls_by k line' ≡ calls_by k line
     → CallerHolds room line (part_of (held_by h (fresh_pass line)) k) word home k s → CallerHolds room line' (part_of (held_by h (fresh_pass line')) k) word home k s
 caller_stands room h line line' word home k s grew same t = record { word_is = t.word_is; request_is = t.request_is; stage_holds = go s.stage t.request_is t.stage_holds }
   where
-    go : (stage : Stage) → None ≡ request_at stage s.calls → StageHolds room line (part_of (held_by h (fresh_pass line)) k) home k s stage → StageHolds room line' (part_of (held_by h (fresh_pass line')) k) home k s stage
+    go : (stage : Stage) → None ≡ request_at stage s.job → StageHolds room line (part_of (held_by h (fresh_pass line)) k) home k s stage → StageHolds room line' (part_of (held_by h (fresh_pass line')) k) home k s stage
     go unmade e t = record { home_is = t.home_is; no_calls = same ∙ t.no_calls; own_is = t.own_is }
     go idle e t = record { home_is = t.home_is; own_is = same ∙ t.own_is }
-    go posted e t = record { call = t.call; home_is = t.home_is; calls_are = t.calls_are; begins = begins_trans s.start line line' t.begins grew; own_is = same ∙ t.own_is }
+    go posted e t = record { home_is = t.home_is; lawful = t.lawful; begins = begins_trans s.start line line' t.begins grew; own_is = same ∙ t.own_is }
     go taken e t = absurd (cc e)
-    go done e t = record { outcome = t.outcome; home_is = t.home_is; fate = fate_grows room line line' k s.own s.calls s.start (fate_of t.outcome) grew same t.fate }
+    go done e t = record { outcome = t.outcome; home_is = t.home_is; of_job = t.of_job; fate = fate_grows room line line' k s.own (calls_of s.job) s.start (fate_of t.outcome) grew same t.fate }
 
 -- the caller that wrote its own calls, which is idle
 caller_enters : (room h : ℕ) (line line' : List Entry) (word : ℕ) (home : Home) (k : ℕ) (s : Station) → s.stage ≡ idle
@@ -85,8 +86,8 @@ module _ (room : ℕ) (s : State Slot View) (r : Lawful room s) (id : ℕ) (c : 
   idle_here = (subst (PhaseHolds k c.standing.seen c.standing.own here) resting knows.phase).stage_is
 
   -- what the caller knows then
-  enter_knows : (line' : List Entry) → Begins r.line line' → Knows room r.n r.made line' (held_by k (fresh_pass line')) (after line') id (Caller (entering_line c line'))
-  enter_knows line' grew = record {
+  enter_knows : (line' : List Entry) → Begins r.line line' → Whole line' → Knows room r.n r.made line' (held_by k (fresh_pass line')) (after line') id (Caller (entering_line c line'))
+  enter_knows line' grew whole = record {
     number_made = knows.number_made;
     inside = knows.inside;
     seat_is = ap (λ (z : Station). z.seat) (here_is line') ∙ knows.seat_is;
@@ -96,6 +97,8 @@ module _ (room : ℕ) (s : State Slot View) (r : Lawful room s) (id : ℕ) (c : 
       seen_begins = begins_self line';
       told_begins = begins_trans c.told r.line line' knows.fronts.told_begins grew;
       start_begins = begins_trans (left_start c.standing.phase) r.line line' knows.fronts.start_begins grew;
+      seen_whole = whole;
+      told_whole = knows.fronts.told_whole;
     };
     pass_is = sym (pass_there k (fresh_pass line'));
     phase = subst (PhaseHolds k line' (calls_by k line') (after line' k)) (sym resting) record { stage_is = ap (λ (z : Station). z.stage) (here_is line') ∙ idle_here; own_is = refl };
@@ -117,14 +120,14 @@ module _ (room : ℕ) (s : State Slot View) (r : Lawful room s) (id : ℕ) (c : 
   no_strangers_since line' entered i far = others_since line' entered i (λ e. let inside = knows.inside in omega arith) ∙ r.line_holds.no_strangers i far
 
   -- the line becomes this one, which has more calls of this caller alone
-  enter_keeps : (line' : List Entry) → IsEntered k line line' → Lawful room record { words = set s.words length_word (length line'); homes = s.homes; views = set s.views id (Caller (entering_line c line')) }
-  enter_keeps line' entered =
+  enter_keeps : (line' : List Entry) → IsEntered k line line' → Whole line' → Lawful room record { words = set s.words length_word (length line'); homes = s.homes; views = set s.views id (Caller (entering_line c line')) }
+  enter_keeps line' entered whole =
       let p : Pass = fresh_pass line' in
       let grew : Begins r.line line' = subst (λ l. Begins l line') same_line entered.grows in
       let st : Station = recorded here (calls_by k line') in
       let wide = r.wide in
       let seats = seats_after (Knows room r.n r.made r.line r.lock r.station) (Knows room r.n r.made line' (held_by k p) (after line')) s.views id (Caller (entering_line c line'))
-      (enter_knows line' grew)
+      (enter_knows line' grew whole)
       (others_know room r.n r.made r.line line' r.lock (held_by k p) r.station (after line') k id knows.seat_is grew
       (λ i other. pass_elsewhere k i p other ∙ sym (ap (λ l. pass_of l i) (locked room s r id c there (fresh_pass line) has) ∙ pass_elsewhere k i (fresh_pass line) other))
       (put_abides r.station k st) (put_rises r.station k st (λ z. z))) r.each_seat in
@@ -139,6 +142,7 @@ module _ (room : ℕ) (s : State Slot View) (r : Lawful room s) (id : ℕ) (c : 
         not_made = λ m far. subst IsNotMade (sym (put_else r.station k st m (λ e. let made = knows.number_made in omega arith))) (r.not_made m far);
         line_holds = record {
           length_is = get_or-set_same s.words length_word (length line') 0 (omega arith);
+          whole = whole;
           no_strangers = no_strangers_since line' entered;
         };
         lock_holds = record {
@@ -168,9 +172,9 @@ module _ (room : ℕ) (s : State Slot View) (r : Lawful room s) (id : ℕ) (c : 
           (caller_stands room k r.line line' (get_or s.words (own_word i) 0) (get_elem? s.homes (i + 1)) i (r.station i) grew (others i other) (old i lt)))
 
 pub enters_line : (room slots id : ℕ) (me : Sat) (line : List Entry) → me.0 ≡ Caller (known_of me.0) → IsIdle (known_of me.0).standing
-    → (known_of me.0).pass ≡ Some (fresh_pass (pass_in (known_of me.0)).line) → IsEntered (known_of me.0).standing.number (pass_in (known_of me.0)).line line
+    → (known_of me.0).pass ≡ Some (fresh_pass (pass_in (known_of me.0)).line) → IsEntered (known_of me.0).standing.number (pass_in (known_of me.0)).line line → Whole line
     → Allows (Lawful room) slots id me length_word (λ _. length line) (λ _. Enters line (step slots length_word (length line) 0 none) me (length line))
-enters_line room slots id me line is resting has entered s r deep at small =
+enters_line room slots id me line is resting has entered whole s r deep at small =
     let c : Known = known_of me.0 in
     let there : get_elem? s.views id ≡ some (Caller c) = at ∙ ap (λ (v : View). some v) is in
     let sized : slots ≡ r.n + 1 = sym deep ∙ r.deep in
@@ -178,10 +182,10 @@ enters_line room slots id me line is resting has entered s r deep at small =
       Caller (entering_line c line),
       keeps,
       tt,
-      enter_keeps room s r id c there (pass_in c).line has resting line entered,
+      enter_keeps room s r id c there (pass_in c).line has resting line entered whole,
       (
         refl,
         front_of slots sized (no_strangers_since room s r id c there (pass_in c).line has resting line entered)
-            (enter_knows room s r id c there (pass_in c).line has resting line (subst (λ l. Begins l line) line_is entered.grows)),
+            (enter_knows room s r id c there (pass_in c).line has resting line (subst (λ l. Begins l line) line_is entered.grows) whole),
       ),
     )

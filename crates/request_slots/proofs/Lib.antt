@@ -4,6 +4,7 @@ pub mod Carrying
 pub mod RequestLists
 pub mod Hands
 pub mod Sitting
+pub mod Splitting
 pub mod Looking
 pub mod Asking
 pub mod Locking

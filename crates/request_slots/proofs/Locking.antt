@@ -11,6 +11,7 @@ use Rattle.atomic_table.specs.Table.{State, step, Act, keeps, takes, stepped, Va
 use Rattle.cvl_text.specs.declared.call.Call.{Call}
 use Rattle.call_history.specs.declared.entry.Entry.{Entry}
 use Rattle.call_history.specs.History.{Begins}
+use Rattle.call_history.specs.Blocks.{Whole}
 use Rattle.call_history.specs.Callers.{calls_by}
 use Rattle.call_history.proofs.Beginnings.{begins_self}
 use Rattle.request_slots.specs.declared.desk.Slot.{Slot}
@@ -40,11 +41,11 @@ use Rattle.request_slots.proofs.Looking.{phase_along}
 
 phase_noted : (k : ℕ) (seen : List Entry) (own : List Call) (s : Station) (held : Bool) (phase : Phase) → PhaseHolds k seen own s phase → PhaseHolds k seen own (noted s held) phase
 phase_noted k seen own s held Idle p = p
-phase_noted k seen own s held (Left calls start) p = record { left = p.left; calls_are = p.calls_are; start_is = p.start_is; begins = p.begins; own_is = p.own_is; request = p.request }
+phase_noted k seen own s held (Left job start) p = record { left = p.left; job_is = p.job_is; start_is = p.start_is; begins = p.begins; own_is = p.own_is; lawful = p.lawful }
 
 own_calls : (k : ℕ) (line : List Entry) (own : List Call) (s : Station) (phase : Phase) → PhaseHolds k line own s phase → (calls_by k line ≡ own) ⊎ (calls_by k line ≡ own ++ left_calls phase)
 own_calls k line own s Idle h = inl h.own_is
-own_calls k line own s (Left calls start) h = h.own_is
+own_calls k line own s (Left job start) h = h.own_is
 
 module _ (room : ℕ) (s : State Slot View) (r : Lawful room s) (id : ℕ) (c : Known) (there : get_elem? s.views id ≡ some (Caller c)) where
   abbrev knows : Knows room r.n r.made r.line r.lock r.station id (Caller c)
@@ -134,6 +135,7 @@ shows_line room slots s r id c d sized knows rests = let is_line : r.line ≡ d.
   room = rests.room_is ∙ sym knows.room_is;
   begins = subst (Begins c.standing.seen) is_line knows.fronts.seen_begins;
   own = subst (HasOwnCalls c.standing) is_line (own_calls c.standing.number r.line c.standing.own (r.station c.standing.number) c.standing.phase (phase_along room s r id c knows));
+  whole = subst Whole is_line r.line_holds.whole;
   no_strangers = λ i far. subst (λ l. calls_by i l ≡ []) is_line (r.line_holds.no_strangers i (omega arith));
 }
 

@@ -21,7 +21,7 @@ use Rattle.request_slots.specs.Passes.{Lock, free, held_by, pass_of, Part, part_
 use Rattle.request_slots.specs.Locks.{MadeSit}
 use Rattle.request_slots.specs.Requests.{StageHolds, request_at, CallerHolds}
 use Rattle.request_slots.specs.Lawful.{IsNotMade, NewcomerKnows, CallerKnows, Knows, Lawful}
-use Rattle.request_slots.specs.Standing.{Machine, newcomer}
+use Rattle.request_slots.specs.Standing.{Machine, no_job, newcomer}
 use Rattle.request_slots.specs.Views.{untold, IsSpare, next_maker, next_caller}
 use Rattle.request_slots.specs.Events.{Sat, Arrives}
 use Rattle.request_slots.proofs.Stations.{put, put_here, put_else, put_rises, put_abides, put_seat, caller_abides, others_know}
@@ -46,7 +46,7 @@ at_end (x ∷ xs) a b (suc j) e = ⊎_elim inl (λ (t : (j ≡ length xs) × (a 
 
 -- a caller that is not made
 abbrev blank : Station
-blank = record { stage = unmade; seat = 0; own = []; calls = []; start = []; held = false }
+blank = record { stage = unmade; seat = 0; own = []; job = no_job; start = []; held = false }
 
 first_knows : (room n j : ℕ) (v : View) → get_elem? (Maker room 0 ∷ []) j ≡ some v → Knows room n 0 [] free (λ _. blank) j v
 first_knows room n zero v e = subst (Knows room n 0 [] free (λ _. blank) 0) (some-injective (Maker room 0) v e) (refl, refl, refl)
@@ -66,7 +66,7 @@ opens room n words slots d words_are slots_are room_is no_entries spare =
       wide = ap length words_are ∙ length-replicate (own_word n) 0;
       deep = length-map slots (λ (x : Slot). some x) ∙ (ap length slots_are ∙ (ap suc (length-replicate n Nothing) ∙ sym (add-one n)));
       not_made = λ _ _. record { stage_is = refl; not_held = refl };
-      line_holds = record { length_is = word length_word; no_strangers = λ _ _. refl };
+      line_holds = record { length_is = word length_word; whole = tt; no_strangers = λ _ _. refl };
       lock_holds = record {
         word_is = word 0;
         desk = d;
@@ -90,7 +90,7 @@ opens room n words slots d words_are slots_are room_is no_entries spare =
 
 -- a station whose caller sits elsewhere
 abbrev seated : Station → ℕ → Station
-seated s seat = record { stage = s.stage; seat = seat; own = s.own; calls = s.calls; start = s.start; held = s.held }
+seated s seat = record { stage = s.stage; seat = seat; own = s.own; job = s.job; start = s.start; held = s.held }
 
 -- what the rule says of a caller does not depend on where it sits
 caller_sits : (room : ℕ) (line : List Entry) (part : Part) (word : ℕ) (home : Home) (k : ℕ) (s : Station) (seat : ℕ) → CallerHolds room line part word home k s → CallerHolds room line part word home k (seated s seat)
@@ -218,13 +218,13 @@ arrives machine key slots id room k me is near = subst (λ (m : Sat). Allows (La
         let there : Station = r.station k in
         let caller = r.each_caller k inside in
         let stage = subst (StageHolds key r.line (part_of r.lock k) (get_elem? s.homes (k + 1)) k there) know.stage_is caller.stage_holds in
-        let st : Station = record { stage = idle; seat = there.seat; own = there.own; calls = there.calls; start = there.start; held = there.held } in
+        let st : Station = record { stage = idle; seat = there.seat; own = there.own; job = there.job; start = there.start; held = there.held } in
         let rises = put_rises r.station k st (λ e. e) in (
           Caller (untold (newcomer machine room k)),
           takes (k + 1) Nothing,
           stage.home_is,
           caller_step key s r k 1 none st r.lock id (Newcomer room k) (Caller (untold (newcomer machine room k))) inside know.number_made at refl refl (λ i other. refl)
-              record { word_is = refl; request_is = caller.request_is ∙ ap (λ (z : Stage). request_at z there.calls) know.stage_is; stage_holds = record { home_is = refl; own_is = stage.no_calls ∙ sym stage.own_is } }
+              record { word_is = refl; request_is = caller.request_is ∙ ap (λ (z : Stage). request_at z there.job) know.stage_is; stage_holds = record { home_is = refl; own_is = stage.no_calls ∙ sym stage.own_is } }
               r.lock_holds
               (subst (λ (z : Station). CallerKnows key r.n r.made r.line (pass_of r.lock k) z (λ m. (put r.station k st m).held) id (untold (newcomer machine room k))) (sym (put_here r.station k st)) record {
                 number_made = know.number_made;
@@ -232,7 +232,7 @@ arrives machine key slots id room k me is near = subst (λ (m : Sat). Allows (La
                 seat_is = know.seat_is;
                 room_is = know.room_is;
                 own_is = sym stage.own_is;
-                fronts = record { seen_begins = begins_empty r.line; told_begins = begins_empty r.line; start_begins = begins_empty r.line };
+                fronts = record { seen_begins = begins_empty r.line; told_begins = begins_empty r.line; start_begins = begins_empty r.line; seen_whole = tt; told_whole = tt };
                 pass_is = sym (no_pass_unheld key s r k r.lock refl know.not_held);
                 phase = record { stage_is = refl; own_is = refl };
                 settled = record { done = λ e. absurd (cc e); tried = λ p e. absurd (cc e) };

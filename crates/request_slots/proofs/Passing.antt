@@ -27,7 +27,7 @@ use Rattle.request_slots.proofs.Carrying.{relocked, caller_step, moved}
 
 -- a station whose stage alone is another
 abbrev pub staged : Station → Stage → Station
-staged s stage = record { stage = stage; seat = s.seat; own = s.own; calls = s.calls; start = s.start; held = s.held }
+staged s stage = record { stage = stage; seat = s.seat; own = s.own; job = s.job; start = s.start; held = s.held }
 
 module _ (room : ℕ) (s : State Slot View) (r : Lawful room s) (id : ℕ) (c : Known) (there : get_elem? s.views id ≡ some (Caller c)) (p : Pass) (has : c.pass ≡ Some p) where
   abbrev knows : Knows room r.n r.made r.line r.lock r.station id (Caller c)

@@ -51,7 +51,7 @@ module _ {A : Type 0} where
 pub record Abides (s s' : Station) : Type 0 where
   pub seat : s'.seat ≡ s.seat
   pub own : s'.own ≡ s.own
-  pub calls : s'.calls ≡ s.calls
+  pub job : s'.job ≡ s.job
   pub start : s'.start ≡ s.start
   pub held : s'.held ≡ s.held
   pub left : is_left s'.stage ≡ is_left s.stage
@@ -61,7 +61,7 @@ pub record Abides (s s' : Station) : Type 0 where
   pub posted_stood : s'.stage ≡ posted → s.stage ≡ posted
 
 pub abides_self : (s : Station) → Abides s s
-abides_self s = record { seat = refl; own = refl; calls = refl; start = refl; held = refl; left = refl; unmade_stays = λ e. e; idle_stays = λ e. e; done_stays = λ e. e; posted_stood = λ e. e }
+abides_self s = record { seat = refl; own = refl; job = refl; start = refl; held = refl; left = refl; unmade_stays = λ e. e; idle_stays = λ e. e; done_stays = λ e. e; posted_stood = λ e. e }
 
 abides_same : (s s' : Station) → s' ≡ s → Abides s s'
 abides_same s s' e = subst (Abides s) (sym e) (abides_self s)
@@ -89,17 +89,19 @@ fronts_grow line line' seen told start grows f = record {
   seen_begins = begins_trans seen line line' f.seen_begins grows;
   told_begins = begins_trans told line line' f.told_begins grows;
   start_begins = begins_trans start line line' f.start_begins grows;
+  seen_whole = f.seen_whole;
+  told_whole = f.told_whole;
 }
 
 pub phase_abides : (k : ℕ) (seen : List Entry) (own : List Call) (s s' : Station) → Abides s s' → (phase : Phase) → PhaseHolds k seen own s phase → PhaseHolds k seen own s' phase
 phase_abides k seen own s s' a Idle h = record { stage_is = a.idle_stays h.stage_is; own_is = h.own_is }
-phase_abides k seen own s s' a (Left calls start) h = record {
+phase_abides k seen own s s' a (Left job start) h = record {
   left = a.left ∙ h.left;
-  calls_are = h.calls_are ∙ sym a.calls;
+  job_is = h.job_is ∙ sym a.job;
   start_is = h.start_is ∙ sym a.start;
   begins = h.begins;
   own_is = h.own_is;
-  request = h.request;
+  lawful = h.lawful;
 }
 
 settled_abides : (k : ℕ) (settled : Bool) (pass : Option Pass) (s s' : Station) → Abides s s' → SettledHolds k settled pass s.stage → SettledHolds k settled pass s'.stage
@@ -144,5 +146,5 @@ others_know room n made line line' lock lock' station station' k me mine grows p
     let apart : c.standing.number ≢ k = λ e. other (sym h.seat_is ∙ (ap (λ (n : ℕ). (station n).seat) e ∙ mine)) in
     caller_abides room n made line line' (pass_of lock c.standing.number) (pass_of lock' c.standing.number) (station c.standing.number) (station' c.standing.number) (λ m. (station m).held) (λ m. (station' m).held) j c
     grows (passes c.standing.number apart) (abides c.standing.number apart) rises h
-others_know room n made line line' lock lock' station station' k me mine grows passes abides rises j other (Bare seen) h = begins_trans seen line line' h grows
+others_know room n made line line' lock lock' station station' k me mine grows passes abides rises j other (Bare seen) h = (begins_trans seen line line' h.0 grows, h.1)
 others_know room n made line line' lock lock' station station' k me mine grows passes abides rises j other Spent h = tt

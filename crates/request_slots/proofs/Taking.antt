@@ -1,6 +1,6 @@
 -- A try at the word of a caller keeps the rule, whether a request is taken or none was posted.
 -- `takes_request` is what the table asks of the step.
-use Rattle.std.proofs.Common.{◌≡◌, ◌≢◌, ℕ, ◌+◌, ◌<◌, true, false, List, [], ◌∷◌, get_or, set, eqb, Option, Some, refl, sym, ap, ◌∙◌, subst, ⊎_elim, arith, eq-eqb, ne_eqb}
+use Rattle.std.proofs.Common.{◌≡◌, ◌≢◌, ℕ, ◌+◌, ◌<◌, true, false, List, ◌∷◌, get_or, set, eqb, Option, Some, refl, sym, ap, ◌∙◌, subst, ⊎_elim, arith, eq-eqb, ne_eqb}
 use mathlib.Core.Logic.{dite}
 use mathlib.Core.Option.{some, none}
 use native.Mathlib.Decide.{ℕ_discrete}
@@ -8,7 +8,7 @@ use lib.ListN.{get_elem?}
 use lib.Seq.{set-get_or}
 use prog.Atomic.{either}
 use Rattle.atomic_table.specs.Table.{State, step, keeps, takes, stepped, Allows}
-use Rattle.cvl_text.specs.declared.call.Call.{Call}
+use Rattle.call_history.specs.declared.request.Job.{Job}
 use Rattle.call_history.specs.History.{Begins}
 use Rattle.call_history.specs.Fits.{outcome_by}
 use Rattle.call_history.proofs.Beginnings.{begins_self}
@@ -44,7 +44,7 @@ abides_taken : (s : Station) → s.stage ≡ posted → Abides s (staged s taken
 abides_taken s e = record {
   seat = refl;
   own = refl;
-  calls = refl;
+  job = refl;
   start = refl;
   held = refl;
   left = sym (ap is_left e);
@@ -61,24 +61,24 @@ module _ (room : ℕ) (s : State Slot View) (r : Lawful room s) (id : ℕ) (c : 
   abbrev rule : Lawful room s
   rule = mine room s r id c there p has
 
-  take_keeps : (i : ℕ) (call : Call) → i < r.n → is_in p.tried i ≡ false → (r.station i).stage ≡ posted → call ∷ [] ≡ (r.station i).calls
-      → Lawful room (moved s i 3 none id (Caller (passing c (takes_on p i call))))
-  take_keeps i call near untried at_post same_call =
-      let p' : Pass = takes_on p i call in let there' : Station = r.station i in
+  take_keeps : (i : ℕ) (job : Job) → i < r.n → is_in p.tried i ≡ false → (r.station i).stage ≡ posted → job ≡ (r.station i).job
+      → Lawful room (moved s i 3 none id (Caller (passing c (takes_on p i job))))
+  take_keeps i job near untried at_post same_job =
+      let p' : Pass = takes_on p i job in let there' : Station = r.station i in
       let pass = holds_pass room s r id c there p has in
       let open_yet = open_before room s r id c there p has i near untried in
       let before_is = pass.before_is open_yet in
       let caller = rule.each_caller i near in
       let stage = subst (StageHolds room r.line (part_of (held_by c.standing.number p) i) (get_elem? s.homes (i + 1)) i there') at_post caller.stage_holds in
       serve_step room s r id c there p has i 3 none (staged there' taken) p' near (made_by_stage room s r i (λ e. let t : posted ≡ unmade = sym at_post ∙ e in absurd (cc t))) (abides_taken there' at_post)
-      (λ j other. ap (λ (q : Option (List Call)). let z : Part = record { request = q; outcome = outcome_by j p.asked p.outcomes; before = p.before; committed = p.committed } in z) (request_by-push_else j i p.taken call other))
+      (λ j other. ap (λ (q : Option Job). let z : Part = record { request = q; outcome = outcome_by j p.asked p.outcomes; before = p.before; committed = p.committed } in z) (request_by-push_else j i p.taken job other))
       record {
         word_is = refl;
-        request_is = request_by-push i p.taken call (caller.request_is ∙ ap (λ (z : Stage). request_at z there'.calls) at_post) ∙ ap (λ (z : List Call). Some z) same_call;
+        request_is = request_by-push i p.taken job (caller.request_is ∙ ap (λ (z : Stage). request_at z there'.job) at_post) ∙ ap (λ (z : Job). Some z) same_job;
         stage_holds = record {
           home_is = refl;
           begins = subst (Begins there'.start) (sym before_is) stage.begins;
-          served = subst (ServedHolds room r.line (outcome_by i p.asked p.outcomes) i there'.own there'.calls there'.start) (sym open_yet) stage.own_is;
+          served = subst (ServedHolds room r.line (outcome_by i p.asked p.outcomes) i there'.own there'.job there'.start) (sym open_yet) stage.own_is;
         };
       }
       record {
@@ -86,7 +86,7 @@ module _ (room : ℕ) (s : State Slot View) (r : Lawful room s) (id : ℕ) (c : 
         before_is = pass.before_is;
         grows = pass.grows;
         all_tried = λ e. absurd (cc (e, open_yet));
-        of_callers = λ j far. request_by-push_else j i p.taken call (λ e. omega arith) ∙ pass.of_callers j far;
+        of_callers = λ j far. request_by-push_else j i p.taken job (λ e. omega arith) ∙ pass.of_callers j far;
       }
       (λ t. dite (ℕ_discrete c.standing.number i)
       (λ same e. let z : taken ≡ posted = ap (λ (z : Station). z.stage) (sym (put_here r.station i (staged there' taken)) ∙ ap (put r.station i (staged there' taken)) (sym same)) ∙ e in absurd (cc z))
@@ -144,14 +144,15 @@ takes_request room slots id i me is has near untried s r deep at small =
     let caller = r.each_caller i inside in
     dite (ℕ_discrete x 2)
     (λ hit. let at_post = code_posted (r.station i).stage (sym caller.word_is ∙ hit) in
-    let left = subst (StageHolds room r.line (part_of r.lock i) (get_elem? s.homes (i + 1)) i (r.station i)) at_post caller.stage_holds in (
-      Caller (passing c (takes_on p i left.call)),
-      takes (i + 1) (Asked left.call),
+    let left = subst (StageHolds room r.line (part_of r.lock i) (get_elem? s.homes (i + 1)) i (r.station i)) at_post caller.stage_holds in
+    let job : Job = (r.station i).job in (
+      Caller (passing c (takes_on p i job)),
+      takes (i + 1) (Asked job),
       left.home_is,
-      subst (λ b. Lawful room (stepped s (own_word i) (either b 3 x) id me.1 (Caller (passing c (takes_on p i left.call))) (takes (i + 1) (Asked left.call)))) (sym (eq-eqb x 2 hit))
-          (take_keeps room s r id c there p has i left.call inside untried at_post left.calls_are),
+      subst (λ b. Lawful room (stepped s (own_word i) (either b 3 x) id me.1 (Caller (passing c (takes_on p i job))) (takes (i + 1) (Asked job)))) (sym (eq-eqb x 2 hit))
+          (take_keeps room s r id c there p has i job inside untried at_post refl),
       λ j e. let same : i ≡ j = omega arith in
-          ((λ _. (left.call, ap (λ (z : ℕ). Caller (passing c (takes_on p z left.call))) same, ap (λ (z : ℕ). let l : List (ℕ × Slot) = (z + 1, Asked left.call) ∷ me.1 in l) same)), λ miss. absurd (miss hit)),
+          ((λ _. (job, ap (λ (z : ℕ). Caller (passing c (takes_on p z job))) same, ap (λ (z : ℕ). let l : List (ℕ × Slot) = (z + 1, Asked job) ∷ me.1 in l) same, left.lawful)), λ miss. absurd (miss hit)),
     ))
     (λ miss. (
       Caller (passing c (tries p i)),

@@ -1,12 +1,12 @@
 -- An outcome that goes home keeps the rule.
 -- `tells` is what the table asks of the step.
-use Rattle.std.proofs.Common.{◌≡◌, ℕ, ◌+◌, ◌<◌, true, List, ◌∷◌, Option, Some, refl, sym, ap, ◌∙◌, subst, arith}
+use Rattle.std.proofs.Common.{◌≡◌, ℕ, ◌+◌, ◌<◌, true, ◌∷◌, Option, Some, refl, sym, ap, ◌∙◌, subst, arith}
 use mathlib.Core.Option.{some, none}
 use lib.ListN.{get_elem?}
 use Rattle.atomic_table.specs.Table.{State, step, gives, Allows, rest}
-use Rattle.cvl_text.specs.declared.call.Call.{Call}
+use Rattle.call_history.specs.declared.request.Job.{Job}
 use Rattle.call_history.specs.declared.request.Outcome.{Outcome}
-use Rattle.call_history.specs.Fits.{request_by, outcome_by, fate_of}
+use Rattle.call_history.specs.Fits.{calls_of, request_by, outcome_by, fate_of, IsOfJob}
 use Rattle.request_slots.specs.declared.desk.Slot.{Slot}
 use Rattle.request_slots.specs.declared.desk.Slot.TheVariants.{Told}
 use Rattle.request_slots.specs.declared.known.Pass.{Pass}
@@ -24,18 +24,18 @@ use Rattle.request_slots.proofs.Carrying.{made_by_stage, moved}
 use Rattle.request_slots.proofs.RequestLists.{request_by-all_but, request_by-all_but_else}
 use Rattle.request_slots.proofs.Passing.{staged, mine, holds_pass, serve_step}
 
-taken_by_request : (stage : Stage) (calls asked : List Call) → Some asked ≡ request_at stage calls → stage ≡ taken
-taken_by_request unmade calls asked e = absurd (cc e)
-taken_by_request idle calls asked e = absurd (cc e)
-taken_by_request posted calls asked e = absurd (cc e)
-taken_by_request taken calls asked e = refl
-taken_by_request done calls asked e = absurd (cc e)
+taken_by_request : (stage : Stage) (job asked : Job) → Some asked ≡ request_at stage job → stage ≡ taken
+taken_by_request unmade job asked e = absurd (cc e)
+taken_by_request idle job asked e = absurd (cc e)
+taken_by_request posted job asked e = absurd (cc e)
+taken_by_request taken job asked e = refl
+taken_by_request done job asked e = absurd (cc e)
 
 abides_done : (s : Station) → s.stage ≡ taken → Abides s (staged s done)
 abides_done s e = record {
   seat = refl;
   own = refl;
-  calls = refl;
+  job = refl;
   start = refl;
   held = refl;
   left = sym (ap is_left e);
@@ -49,26 +49,27 @@ module _ (room : ℕ) (s : State Slot View) (r : Lawful room s) (id : ℕ) (c : 
   abbrev knows : Knows room r.n r.made r.line r.lock r.station id (Caller c)
   knows = r.each_seat id (Caller c) there
 
-  tell_keeps : (i : ℕ) (calls : List Call) (o : Outcome) → i < r.n → p.committed ≡ true → request_by i p.taken ≡ Some calls → outcome_by i p.asked p.outcomes ≡ Some o
+  tell_keeps : (i : ℕ) (job : Job) (o : Outcome) → i < r.n → p.committed ≡ true → request_by i p.taken ≡ Some job → outcome_by i p.asked p.outcomes ≡ Some o
       → Lawful room (moved s i 4 (some (Told o)) id (Caller (passing c (strikes p i))))
-  tell_keeps i calls o near over asks has_told =
+  tell_keeps i job o near over asks has_told =
       let p' : Pass = strikes p i in let there' : Station = r.station i in
       let rule = mine room s r id c there p has in
       let pass = holds_pass room s r id c there p has in
       let caller = rule.each_caller i near in
-      let at_taken = taken_by_request there'.stage there'.calls calls (sym asks ∙ caller.request_is) in
+      let at_taken = taken_by_request there'.stage there'.job job (sym asks ∙ caller.request_is) in
       let stage = subst (StageHolds room r.line (part_of (held_by c.standing.number p) i) (get_elem? s.homes (i + 1)) i there') at_taken caller.stage_holds in
-      let told = subst (ServedHolds room r.line (outcome_by i p.asked p.outcomes) i there'.own there'.calls there'.start) over stage.served in
+      let told = subst (ServedHolds room r.line (outcome_by i p.asked p.outcomes) i there'.own there'.job there'.start) over stage.served in
       let same : told.0 ≡ o = cc (told.1, has_told) in
       serve_step room s r id c there p has i 4 (some (Told o)) (staged there' done) p' near (made_by_stage room s r i (λ e. let t : taken ≡ unmade = sym at_taken ∙ e in absurd (cc t))) (abides_done there' at_taken)
-      (λ j other. ap (λ (q : Option (List Call)). let z : Part = record { request = q; outcome = outcome_by j p.asked p.outcomes; before = p.before; committed = p.committed } in z) (request_by-all_but_else j i p.taken other))
+      (λ j other. ap (λ (q : Option Job). let z : Part = record { request = q; outcome = outcome_by j p.asked p.outcomes; before = p.before; committed = p.committed } in z) (request_by-all_but_else j i p.taken other))
       record {
         word_is = refl;
         request_is = request_by-all_but i p.taken;
         stage_holds = record {
           outcome = o;
           home_is = refl;
-          fate = subst (λ (z : Outcome). FateHolds room r.line i there'.own there'.calls there'.start (fate_of z)) same told.2;
+          of_job = subst (IsOfJob there'.job) same told.2;
+          fate = subst (λ (z : Outcome). FateHolds room r.line i there'.own (calls_of there'.job) there'.start (fate_of z)) same told.3;
         };
       }
       record {
@@ -80,11 +81,11 @@ module _ (room : ℕ) (s : State Slot View) (r : Lawful room s) (id : ℕ) (c : 
       }
       (λ t e. knows.settled.tried p has t ((put_all_abide r.station i (staged there' done) (abides_done there' at_taken) c.standing.number).posted_stood e))
 
-pub tells : (room slots id i : ℕ) (calls : List Call) (old me : Sat) (o : Outcome) → me ≡ (old.0, (i + 1, Told o) ∷ rest old.1) → old.0 ≡ Caller (known_of old.0)
-    → (known_of old.0).pass ≡ Some (pass_in (known_of old.0)) → i + 1 < slots → (pass_in (known_of old.0)).committed ≡ true → request_by i (pass_in (known_of old.0)).taken ≡ Some calls
+pub tells : (room slots id i : ℕ) (job : Job) (old me : Sat) (o : Outcome) → me ≡ (old.0, (i + 1, Told o) ∷ rest old.1) → old.0 ≡ Caller (known_of old.0)
+    → (known_of old.0).pass ≡ Some (pass_in (known_of old.0)) → i + 1 < slots → (pass_in (known_of old.0)).committed ≡ true → request_by i (pass_in (known_of old.0)).taken ≡ Some job
     → outcome_by i (pass_in (known_of old.0)).asked (pass_in (known_of old.0)).outcomes ≡ Some o
     → Allows (Lawful room) slots id me (own_word i) (λ _. 4) (λ _. Tells (step slots (own_word i) 4 0 none) me 4)
-tells room slots id i calls old me o put is has near over asks told =
+tells room slots id i job old me o put is has near over asks told =
     subst (λ (m : Sat). Allows (Lawful room) slots id m (own_word i) (λ _. 4) (λ _. Tells (step slots (own_word i) 4 0 none) m 4)) (sym put) go
   where
     go : Allows (Lawful room) slots id (old.0, (i + 1, Told o) ∷ rest old.1) (own_word i) (λ _. 4) (λ _. Tells (step slots (own_word i) 4 0 none) (old.0, (i + 1, Told o) ∷ rest old.1) 4)
@@ -95,6 +96,6 @@ tells room slots id i calls old me o put is has near over asks told =
           Caller (passing c (strikes (pass_in c) i)),
           gives,
           tt,
-          tell_keeps room s r id c there (pass_in c) has i calls o (omega arith) over asks told,
+          tell_keeps room s r id c there (pass_in c) has i job o (omega arith) over asks told,
           λ j e. let same : i ≡ j = omega arith in ap (λ (z : ℕ). let m : Sat = (Caller (passing c (strikes (pass_in c) z)), rest old.1) in m) same,
         )

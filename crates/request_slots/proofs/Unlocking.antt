@@ -6,8 +6,10 @@ use mathlib.Core.Option.{some, none}
 use lib.ListN.{get_elem?}
 use Rattle.atomic_table.specs.Table.{State, step, gives, Allows, rest}
 use Rattle.cvl_text.specs.declared.call.Call.{Call}
+use Rattle.call_history.specs.declared.request.Job.{Job}
 use Rattle.call_history.specs.declared.entry.Entry.{Entry}
 use Rattle.call_history.specs.History.{Begins}
+use Rattle.call_history.specs.Blocks.{Whole}
 use Rattle.call_history.specs.Fits.{request_by}
 use Rattle.call_history.proofs.Beginnings.{begins_self}
 use Rattle.request_slots.specs.declared.desk.Slot.{Slot}
@@ -35,7 +37,7 @@ use Rattle.request_slots.proofs.Looking.{phase_along, front_of}
 
 phase_left : (k : ℕ) (seen : List Entry) (own : List Call) (s : Station) (phase : Phase) → PhaseHolds k seen own s phase → left_in phase ≡ true → is_left s.stage ≡ true
 phase_left k seen own s Idle p e = absurd (cc e)
-phase_left k seen own s (Left calls start) p e = p.left
+phase_left k seen own s (Left job start) p e = p.left
 
 last_stage : (stage : Stage) → is_left stage ≡ true → stage ≢ posted → stage ≢ taken → stage ≡ done
 last_stage unmade e f g = absurd (cc e)
@@ -52,8 +54,8 @@ both_true : (a b : Bool) → (a && b) ≡ true → (a ≡ true) × (b ≡ true)
 both_true true b e = (refl, e)
 both_true false b e = absurd (cc e)
 
-not_taken : (calls : List Call) (stage : Stage) → None ≡ request_at stage calls → stage ≢ taken
-not_taken calls stage e is = let t : None ≡ Some calls = e ∙ ap (λ (z : Stage). request_at z calls) is in absurd (cc t)
+not_taken : (job : Job) (stage : Stage) → None ≡ request_at stage job → stage ≢ taken
+not_taken job stage e is = let t : None ≡ Some job = e ∙ ap (λ (z : Stage). request_at z job) is in absurd (cc t)
 
 module _ (room : ℕ) (s : State Slot View) (r : Lawful room s) (id : ℕ) (c : Known) (there : get_elem? s.views id ≡ some (Caller c)) where
   abbrev knows : Knows room r.n r.made r.line r.lock r.station id (Caller c)
@@ -78,14 +80,14 @@ module _ (room : ℕ) (s : State Slot View) (r : Lawful room s) (id : ℕ) (c : 
         seat_is = knows.seat_is;
         room_is = knows.room_is;
         own_is = knows.own_is;
-        fronts = record { seen_begins = subst (λ l. Begins l r.line) (sym line_is) (begins_self r.line); told_begins = knows.fronts.told_begins; start_begins = knows.fronts.start_begins };
+        fronts = record { seen_begins = subst (λ l. Begins l r.line) (sym line_is) (begins_self r.line); told_begins = knows.fronts.told_begins; start_begins = knows.fronts.start_begins; seen_whole = subst Whole (sym line_is) r.line_holds.whole; told_whole = knows.fronts.told_whole };
         pass_is = refl;
         phase = subst (λ l. PhaseHolds c.standing.number l c.standing.own here c.standing.phase) (sym line_is) (phase_along room s r id c knows);
         settled = record {
           done = λ e. ⊎_elim knows.settled.done
               (λ (t : (is_in p.tried c.standing.number && left_in c.standing.phase) ≡ true). let both = both_true (is_in p.tried c.standing.number) (left_in c.standing.phase) t in
               last_stage here.stage (phase_left c.standing.number c.standing.seen c.standing.own here c.standing.phase knows.phase both.1) (knows.settled.tried p has both.0)
-              (not_taken here.calls here.stage (sym (ap (request_by c.standing.number) all_told) ∙ mine.request_is)))
+              (not_taken here.job here.stage (sym (ap (request_by c.standing.number) all_told) ∙ mine.request_is)))
               (either_true c.standing.settled (is_in p.tried c.standing.number && left_in c.standing.phase) e);
           tried = λ q e. absurd (cc e);
         };

@@ -4,9 +4,12 @@
 use Rattle.std.specs.Prelude.{◌≡◌, ◌≢◌, ◌⊎◌, ℕ, ◌+◌, ◌<◌, Bool, true, false, ◌&&◌, ◌||◌, List, [], ◌∷◌, ◌++◌, length, nat_lt, if◌then◌else◌}
 use Rattle.cvl_text.specs.declared.call.Call.{Call}
 use Rattle.call_history.specs.declared.entry.Entry.{Entry}
+use Rattle.call_history.specs.declared.request.Job.{Job}
+use Rattle.call_history.specs.declared.request.Job.TheVariants.{One}
 use Rattle.call_history.specs.History.{Begins}
 use Rattle.call_history.specs.Books.{BookState}
 use Rattle.call_history.specs.Callers.{calls_by}
+use Rattle.call_history.specs.Blocks.{Whole}
 use Rattle.call_history.specs.Answers.{Answers}
 use Rattle.call_history.specs.Fits.{Fate, StandsAt, CameBack}
 use Rattle.request_slots.specs.declared.known.Phase.TheVariants.{Idle, Left}
@@ -20,13 +23,13 @@ longer xs ys = if nat_lt (length xs) (length ys) then ys else xs
 abbrev pub longer_seen : Standing → Standing → List Entry
 longer_seen c d = longer c.seen d.seen
 
--- the caller leaves these calls
-abbrev pub leaving_calls : Standing → List Call → Standing
-leaving_calls c calls = record c { phase = Left calls c.seen }
+-- the caller leaves this job
+abbrev pub leaving_job : Standing → Job → Standing
+leaving_job c job = record c { phase = Left job c.seen }
 
--- the caller leaves this call
+-- the caller leaves this single call
 abbrev pub leaving : Standing → Call → Standing
-leaving c call = leaving_calls c (call ∷ [])
+leaving c call = leaving_job c (One call)
 
 -- what it left came back
 abbrev pub resting : Standing → Standing
@@ -93,12 +96,13 @@ abbrev pub HasOwnCalls : Standing → List Entry → Type 0
 HasOwnCalls c line = (calls_by c.number line ≡ c.own) ⊎ (calls_by c.number line ≡ c.own ++ left_calls c.phase)
 
 -- A book of a machine of so many callers has the caller's room, and a history that begins with its front, has of its own calls
--- what it should, and has no calls but of callers of the machine.
+-- what it should, has no calls but of callers of the machine, and cuts no block.
 pub record ShowsLine (callers : ℕ) (c : Standing) (book : BookState) : Type 0 where
   pub room : book.room ≡ c.room
   pub begins : Begins c.seen book.history
   pub own : HasOwnCalls c book.history
   pub no_strangers : IsOfCallers callers book.history
+  pub whole : Whole book.history
 
 -- a caller is told what became of the calls that it left
 abbrev pub Collected : Standing → Fate → Standing → Type 0

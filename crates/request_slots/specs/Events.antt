@@ -3,11 +3,11 @@
 use Rattle.std.specs.Global.{Box}
 use Rattle.std.specs.Prelude.{◌≡◌, ◌≢◌, ℕ, ◌-◌, false, List, [], ◌∷◌, length}
 use Rattle.atomic_table.specs.Table.{Me, Step, rest}
-use Rattle.cvl_text.specs.declared.call.Call.{Call}
 use Rattle.call_history.specs.declared.entry.Entry.{Entry}
+use Rattle.call_history.specs.declared.request.Job.{Job}
 use Rattle.call_history.specs.declared.request.Outcome.{Outcome}
 use Rattle.call_history.specs.History.{Begins}
-use Rattle.call_history.specs.Fits.{fate_of}
+use Rattle.call_history.specs.Fits.{IsLawfulJob, fate_of, IsOfJob}
 use Rattle.request_slots.specs.declared.desk.Desk.{Desk}
 use Rattle.request_slots.specs.declared.desk.Slot.{Slot}
 use Rattle.request_slots.specs.declared.desk.Slot.TheVariants.{Nothing, Asked, Told, Kept}
@@ -15,29 +15,29 @@ use Rattle.request_slots.specs.declared.known.View.{View}
 use Rattle.request_slots.specs.declared.known.View.TheVariants.{Newcomer, Caller}
 use Rattle.request_slots.specs.Stages.{own_word, desk_slot, own_slot, idle, posted, done, code}
 use Rattle.request_slots.specs.Passes.{takes_on, tries, strikes}
-use Rattle.request_slots.specs.Standing.{Machine, Standing, newcomer, FrontHolds}
-use Rattle.request_slots.specs.Changes.{leaving_calls, seeing, Meets, ShowsLine, Collected}
+use Rattle.request_slots.specs.Standing.{Machine, Standing, no_job, left_job, newcomer, FrontHolds}
+use Rattle.request_slots.specs.Changes.{leaving_job, seeing, Meets, ShowsLine, Collected}
 use Rattle.request_slots.specs.Views.{untold, with_standing, known_of, pass_in, locking, passing, committing, entering_line, unlocking, adopting, IsSpare}
 
 -- a seat: its view, and the slots in its hand
 abbrev pub Sat : Type 0
 Sat = Me Slot View
 
-abbrev pub calls_in : Slot → List Call
-calls_in (Asked call) = call ∷ []
-calls_in Nothing = []
-calls_in (Told o) = []
-calls_in (Kept d) = []
+abbrev pub job_in : Slot → Job
+job_in (Asked job) = job
+job_in Nothing = no_job
+job_in (Told o) = no_job
+job_in (Kept d) = no_job
 
--- the calls in the slot that was taken last
-abbrev pub calls_in_hand : List (ℕ × Slot) → List Call
-calls_in_hand [] = []
-calls_in_hand (x ∷ hand) = calls_in x.1
+-- the job in the slot that was taken last
+abbrev pub job_in_hand : List (ℕ × Slot) → Job
+job_in_hand [] = no_job
+job_in_hand (x ∷ hand) = job_in x.1
 
--- a caller posts the calls that lie in its hand
+-- a caller posts the job that lies in its hand
 abbrev pub Posts : Step Slot → Sat → ℕ → Sat → Type 0
 Posts st m found m' =
-    (found ≡ code idle) × (m'.0 ≡ Caller (with_standing (known_of m.0) (leaving_calls (known_of m.0).standing (calls_in_hand m.1)))) × (m'.1 ≡ rest m.1)
+    (found ≡ code idle) × (m'.0 ≡ Caller (with_standing (known_of m.0) (leaving_job (known_of m.0).standing (job_in_hand m.1)))) × (m'.1 ≡ rest m.1)
 
 -- a caller takes its outcome, or finds none yet
 abbrev pub Collects : Step Slot → Sat → ℕ → Sat → Type 0
@@ -45,7 +45,8 @@ Collects st m found m' =
     (found ≡ code done → (o : Outcome) × (d : Standing) × (m'.0 ≡ Caller (with_standing (known_of m.0) d))
     × (m'.1 ≡ (own_slot (known_of m.0).standing.number, Told o) ∷ m.1)
     × Collected (known_of m.0).standing (fate_of o) d
-    × FrontHolds (st.slots - 1) d)
+    × FrontHolds (st.slots - 1) d
+    × IsOfJob (left_job (known_of m.0).standing.phase) o)
     × (found ≢ code done → (m' ≡ m) × ((known_of m.0).standing.settled ≡ false))
 
 -- the desk is taken, or another caller is found to have it
@@ -58,8 +59,8 @@ Locks st m found m' =
 -- the request of the caller of this word is taken, or its word only counts as tried
 abbrev pub Takes : Step Slot → Sat → ℕ → Sat → Type 0
 Takes st m found m' = (i : ℕ) → st.word ≡ own_word i
-    → (found ≡ code posted → (call : Call) × (m'.0 ≡ Caller (passing (known_of m.0) (takes_on (pass_in (known_of m.0)) i call)))
-    × (m'.1 ≡ (own_slot i, Asked call) ∷ m.1))
+    → (found ≡ code posted → (job : Job) × (m'.0 ≡ Caller (passing (known_of m.0) (takes_on (pass_in (known_of m.0)) i job)))
+    × (m'.1 ≡ (own_slot i, Asked job) ∷ m.1) × IsLawfulJob job)
     × (found ≢ code posted → m' ≡ (Caller (passing (known_of m.0) (tries (pass_in (known_of m.0)) i)), m.1))
 
 -- a look at a word before a try: where nothing is posted the word counts as tried, else nothing changes

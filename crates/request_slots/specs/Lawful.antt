@@ -7,6 +7,7 @@ use lib.ListN.{get_elem?}
 use Rattle.atomic_table.specs.Table.{State}
 use Rattle.call_history.specs.declared.entry.Entry.{Entry}
 use Rattle.call_history.specs.History.{Begins}
+use Rattle.call_history.specs.Blocks.{Whole}
 use Rattle.request_slots.specs.declared.desk.Slot.{Slot}
 use Rattle.request_slots.specs.declared.known.Pass.{Pass}
 use Rattle.request_slots.specs.declared.known.Known.{Known}
@@ -29,7 +30,7 @@ pub record CallerKnows (room n made : ℕ) (line : List Entry) (pass : Option Pa
   pub seat_is : mine.seat ≡ seat
   pub room_is : c.standing.room ≡ room
   pub own_is : c.standing.own ≡ mine.own
-  -- 1. What it has seen begins the line (Fronts).
+  -- 1. What it has seen begins the line, and cuts no block (Fronts).
   pub fronts : FrontsBegin line c.standing.seen c.told (left_start c.standing.phase)
   -- 3. Its pass is the lock's for its number (Passes).
   pub pass_is : c.pass ≡ pass
@@ -54,7 +55,7 @@ Knows room n made line lock station seat (Maker room' m) = (room' ≡ room) × (
 Knows room n made line lock station seat (Newcomer room' k) = NewcomerKnows room made (station k) seat room' k
 Knows room n made line lock station seat (Caller c) =
     CallerKnows room n made line (pass_of lock c.standing.number) (station c.standing.number) (λ m. (station m).held) seat c
-Knows room n made line lock station seat (Bare seen) = Begins seen line
+Knows room n made line lock station seat (Bare seen) = Begins seen line × Whole seen
 Knows room n made line lock station seat Spent = Unit {0}
 
 -- a caller that has no seat yet
@@ -73,7 +74,7 @@ pub record Lawful (room : ℕ) (s : State Slot View) : Type 0 where
   pub wide : length s.words ≡ own_word n
   pub deep : length s.homes ≡ n + 1
   pub not_made : (k : ℕ) → made ≤ k → IsNotMade (station k)
-  -- 2. The length word is the length of the line, whose entries are of callers of the table (Fronts).
+  -- 2. The length word is the length of the line, which cuts no block, and whose entries are of callers of the table (Fronts).
   pub line_holds : LineHolds n (slice_index s.words length_word) line
   -- 3. The lock word names exactly the seat that has the desk, and each caller that was made has one seat (Locks).
   pub lock_holds : LockHolds room n line (slice_index s.words lock_word) (get_elem? s.homes desk_slot) lock

@@ -1,8 +1,8 @@
 -- A pass: what the caller that has the desk does between two steps on the lock.
 -- `Lock` says who has the desk, `Part` what a pass has of one caller; the functions on `Pass` are what each step does to it.
 use Rattle.std.specs.Prelude.{ℕ, Bool, true, false, ◌||◌, ◌==◌, List, [], ◌∷◌, ◌++◌, Option, Some, None, if◌then◌else◌}
-use Rattle.cvl_text.specs.declared.call.Call.{Call}
 use Rattle.call_history.specs.declared.entry.Entry.{Entry}
+use Rattle.call_history.specs.declared.request.Job.{Job}
 use Rattle.call_history.specs.declared.request.Request.{Request}
 use Rattle.call_history.specs.declared.request.Outcome.{Outcome}
 use Rattle.call_history.specs.Fits.{request, request_by, outcome_by}
@@ -23,10 +23,10 @@ abbrev pub is_in : List ℕ → ℕ → Bool
 is_in [] k = false
 is_in (x ∷ xs) k = (x == k) || is_in xs k
 
--- what a pass has of one caller: the calls taken and not yet answered, what became of them in the commit, the history before
+-- what a pass has of one caller: the job taken and not yet answered, what became of it in the commit, the history before
 -- the commit, and whether it was made
 pub record Part : Type 0 where
-  pub request : Option (List Call)
+  pub request : Option Job
   pub outcome : Option Outcome
   pub before : List Entry
   pub committed : Bool
@@ -49,8 +49,8 @@ abbrev pub tries : Pass → ℕ → Pass
 tries p i = record p { tried = p.tried ++ i ∷ [] }
 
 -- and its request was taken
-abbrev pub takes_on : Pass → ℕ → Call → Pass
-takes_on p i call = record p { tried = p.tried ++ i ∷ []; taken = p.taken ++ request i call ∷ [] }
+abbrev pub takes_on : Pass → ℕ → Job → Pass
+takes_on p i job = record p { tried = p.tried ++ i ∷ []; taken = p.taken ++ request i job ∷ [] }
 
 -- the history committed is this one, and these are the outcomes of the requests taken
 abbrev pub commits : Pass → List Entry → List Outcome → Pass

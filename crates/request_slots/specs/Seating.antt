@@ -25,7 +25,7 @@ Hand = List (ℕ × Slot)
 -- an idle caller has its own slot
 abbrev pub own_hand : ℕ → Phase → Hand
 own_hand k Idle = (own_slot k, Nothing) ∷ []
-own_hand k (Left calls start) = []
+own_hand k (Left job start) = []
 
 -- the slots of the callers that are marked, the first mark being this caller's, in order
 abbrev pub marked_slots : ℕ → List Bool → Hand

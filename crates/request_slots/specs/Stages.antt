@@ -5,6 +5,7 @@ use mathlib.Core.Option.{some, none}
 use mathlib.Core.Option as maybe
 use Rattle.cvl_text.specs.declared.call.Call.{Call}
 use Rattle.call_history.specs.declared.entry.Entry.{Entry}
+use Rattle.call_history.specs.declared.request.Job.{Job}
 use Rattle.request_slots.specs.declared.desk.Slot.{Slot}
 
 -- the words of the lock, of the length and of a caller, each eight words behind the one before, and the slots of the desk and of
@@ -30,9 +31,9 @@ pub data Stage : Type 0 where
   unmade : Stage
   -- nothing was asked
   idle : Stage
-  -- calls lie in its slot
+  -- a job lies in its slot
   posted : Stage
-  -- a pass took them
+  -- a pass took it
   taken : Stage
   -- an outcome lies in its slot
   done : Stage
@@ -44,7 +45,7 @@ code posted = 2
 code taken = 3
 code done = 4
 
--- whether calls were left, and no outcome of them was taken
+-- whether a job was left, and no outcome of it was taken
 abbrev pub is_left : Stage → Bool
 is_left unmade = false
 is_left idle = false
@@ -58,9 +59,9 @@ pub record Station : Type 0 where
   pub seat : ℕ
   -- its answered calls
   pub own : List Call
-  -- the calls that it left last
-  pub calls : List Call
-  -- what it had seen when it left them
+  -- the job that it left last
+  pub job : Job
+  -- what it had seen when it left it
   pub start : List Entry
   -- whether it has ever had the desk
   pub held : Bool

@@ -1,7 +1,6 @@
 //! What lies in the slots.
 
-use call_history::{Book, Outcome, Request};
-use cvl_text::Call;
+use call_history::{Book, Job, Outcome, Request};
 
 /// The book, with the vectors that a pass works with.
 #[derive(Drop)]
@@ -18,7 +17,7 @@ pub struct Desk {
 pub enum Slot {
     Nothing,
     /// What a caller asks.
-    Asked(Call),
+    Asked(Job),
     /// What became of it.
     Told(Outcome),
     /// The desk, while nobody has it. It lies apart, so that a slot is moved by few bytes.

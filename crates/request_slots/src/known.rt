@@ -1,8 +1,7 @@
 //! What seats know. No value of these types is made: they are what contracts and the rule say of a seat. A clause reads an
 //! array as a list, of any length.
 
-use call_history::{Entry, Outcome, Request};
-use cvl_text::Call;
+use call_history::{Entry, Job, Outcome, Request};
 use std::convert::Infallible;
 use std::marker::Model;
 
@@ -23,11 +22,11 @@ pub struct Pass {
     pub committed: bool,
 }
 
-/// Whether a caller has left calls.
+/// Whether a caller has left a job.
 pub enum Phase {
     Idle,
-    /// These calls, left when it had seen this history.
-    Left([Call; 0], [Entry; 0]),
+    /// This job, left when it had seen this history.
+    Left(Job, [Entry; 0]),
 }
 
 /// Where a caller stands: to a contract it is the record `Standing`, which also names the machine.

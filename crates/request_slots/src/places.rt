@@ -19,7 +19,7 @@ pub(crate) const DESK: usize = 0;
 pub(crate) const UNMADE: u64 = 0;
 /// nothing was asked,
 pub(crate) const IDLE: u64 = 1;
-/// a call lies in its slot,
+/// a job lies in its slot,
 pub(crate) const POSTED: u64 = 2;
 /// a pass took it,
 pub(crate) const TAKEN: u64 = 3;

@@ -1,4 +1,5 @@
 ghost use Rattle.std.specs.Prelude.{◌≡◌, ◌≤◌, not, length};
+ghost use Rattle.call_history.specs.Blocks.{Whole};
 ghost use Rattle.request_slots.specs.Fronts.{IsOfCallers};
 ghost use Rattle.request_slots.specs.declared.known.Known.{Known};
 ghost use Rattle.request_slots.specs.Standing.{callers_of, left_in, Rests};
@@ -41,6 +42,7 @@ impl Seat {
         ensures idle { result ≡ not (left_in self.now.standing.phase) }
         ensures rests { Rests self.now.standing }
         ensures no_strangers { IsOfCallers (callers_of self.now.standing.machine) self.now.standing.seen }
+        ensures whole { Whole self.now.standing.seen }
     {
         self.idle
     }

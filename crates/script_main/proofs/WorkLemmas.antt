@@ -12,8 +12,11 @@ use Rattle.call_history.specs.declared.entry.Entry.{Entry}
 use Rattle.call_history.specs.History.{Begins, call_of, replay, replay_from, replies_from}
 use Rattle.call_history.specs.Callers.{entries_by, calls_by}
 use Rattle.call_history.specs.Answers.{Answers}
+use Rattle.call_history.specs.Blocks.{block_entries}
+use Rattle.call_history.specs.declared.request.Job.TheVariants.{One}
+use Rattle.call_history.proofs.Blocks.{calls_by-block}
 use Rattle.call_history.proofs.CallerLemmas.{calls_by-append}
-use Rattle.combiner.specs.Standing.{Machine, Left, Standing, IsIdle, HasLeft, IsNewAt, Rests}
+use Rattle.combiner.specs.Standing.{Machine, Left, Standing, IsIdle, HasLeftACall, IsNewAt, Rests}
 use Rattle.combiner.specs.Says.{leaving, IsAnsweredAtLast}
 use Rattle.script_main.specs.Settles.{replies_by}
 use Rattle.script_main.specs.Gates.{MayPass}
@@ -99,7 +102,7 @@ replies_one k room seen history before block own call answer p had ends is mine 
     let same : one.0 ≡ answer = same_last (replies_by k (empty room) seen) (replies_by k (empty room) before) one.0 answer (sym one_way ∙ other_way) in
     one_way ∙ ap (λ (a : Answer). replies_by k (empty room) seen ++ a ∷ []) same
 
-pub left_by_leaving : (call : Call) (c b : Standing) → b ≡ leaving c call → HasLeft b
+pub left_by_leaving : (call : Call) (c b : Standing) → b ≡ leaving c call → HasLeftACall b
 left_by_leaving call c b is = (call, c.seen, ap (λ (z : Standing). z.phase) is)
 
 told_nothing : (m : Machine) (c : Standing) → IsNewAt m c.room c → HasDone m c.room c.number [] c []
@@ -116,7 +119,7 @@ told_nothing m c new = record {
 pub goes_on : (c b d : Standing) (call : Call) (place : ℕ) (reply : Reply) → b ≡ leaving c call → d.machine ≡ c.machine → d.number ≡ b.number → d.room ≡ b.room → IsIdle d → Rests d
     → IsAnsweredAtLast b d place reply → TakesTurn c call d reply
 goes_on c b d call place reply is machine number room idle rests a calls answers h =
-    let both : Left (a.call ∷ []) a.start ≡ Left (call ∷ []) c.seen = sym a.left ∙ ap (λ (z : Standing). z.phase) is in
+    let both : Left (One a.call) a.start ≡ Left (One call) c.seen = sym a.left ∙ ap (λ (z : Standing). z.phase) is in
     let asked : a.call ∷ [] ≡ call ∷ [] = cc both in
     let start : a.start ≡ c.seen = cc both in
     let told : Answers c.room c.seen c.own c.number (call ∷ []) a.history (answer_of reply ∷ []) =
@@ -126,7 +129,8 @@ goes_on c b d call place reply is machine number room idle rests a calls answers
     let numbered : d.number ≡ c.number = number ∙ ap (λ (z : Standing). z.number) is in
     let mine : calls_by c.number d.seen ≡ calls ++ call ∷ [] = ap (λ (n : ℕ). calls_by n d.seen) (sym numbered) ∙ ((rests idle).0 ∙ own) in
     let owns : calls_by c.number a.history ≡ calls ++ call ∷ [] = told.owns ∙ ap (λ (l : List Call). l ++ call ∷ []) h.record_is in
-    let one = replies_one c.number c.room c.seen a.history told.before told.block calls call (answer_of reply) told.begins h.calls_are told.ends told.calls_are told.of_caller owns told.replies_are in
+    let entries = block_entries told.before c.number (call ∷ []) in
+    let one = replies_one c.number c.room c.seen a.history told.before entries calls call (answer_of reply) told.begins h.calls_are told.ends refl (calls_by-block c.number told.before (call ∷ [])) owns told.replies_are in
     record {
       machine_is = machine;
       room_is = room ∙ ap (λ (z : Standing). z.room) is;

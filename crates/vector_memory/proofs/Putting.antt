@@ -1,7 +1,7 @@
 -- A value in place of another: what the names stand for afterwards (`lookup-inserted`, `value_at-put`, `put-put`), and that a
 -- value that is no larger than the one before is not refused (`fits_in_place`), also where the place was left empty between
 -- (`fits_back`).
-use Rattle.std.proofs.Common.{◌≡◌, ℕ, ◌+◌, ◌-◌, ◌≤◌, Bool, true, false, cond, not, ◌&&◌, ltb, leb, List, [], ◌∷◌, length, Option, None, Some, refl, sym, ap, ◌∙◌, arith}
+use Rattle.std.proofs.Common.{◌≡◌, ◌≤◌, Bool, true, false, cond, not, ◌&&◌, leb, List, [], ◌∷◌, length, Option, None, Some, refl, sym, ap, ◌∙◌, arith}
 use Rattle.std.specs.Prelude.{is_some, unwrap_or}
 use Rattle.std.specs.Option.{option_map}
 use Rattle.std.specs.Map.{lookup}
@@ -9,11 +9,10 @@ use Rattle.std.proofs.lemmas.Bool.{le-ltb}
 use Rattle.std.proofs.lemmas.Cmp.{nat_list_eq_equiv}
 use Rattle.indexmap.specs.IndexMap.{insert_entry}
 use Rattle.vector_memory.specs.declared.name.Name.{Name}
-use Rattle.vector_memory.specs.declared.memory.StoreFault.{StoreFault}
 use Rattle.vector_memory.specs.declared.memory.StoreFault.TheVariants.{NoRoom, TooManyNames}
 use Rattle.vector_memory.specs.Contents.{Content, size_of}
 use Rattle.vector_memory.specs.Names.{same_name}
-use Rattle.vector_memory.specs.States.{State, IsLawful, value_at, cells_of, cells_after, old_size, refusal, put, name_limit}
+use Rattle.vector_memory.specs.States.{State, Began, spent, IsLawful, value_at, cells_after, old_size, refusal, put, name_limit}
 use Rattle.vector_memory.proofs.StateLemmas.{cells-put, old_size_le_cells}
 
 -- a name apart from n is apart from each name that is n
@@ -55,9 +54,16 @@ insert-insert (e ∷ es) n v w = by (same_name n e.0) refl (insert-insert es n v
     by true h rest = ap (λ b. cond b ((e.0, w) ∷ es) ((e.0, v) ∷ insert_entry same_name es n w)) h
     by false h rest = ap (λ b. cond b ((e.0, w) ∷ insert_entry same_name es n v) (e ∷ insert_entry same_name (insert_entry same_name es n v) n w)) h ∙ ap (λ l. e ∷ l) rest
 
+-- outside a block no change is counted
+unspent : (o : Option Began) → o ≡ None → spent true (spent true o) ≡ spent true o
+unspent None e = refl
+unspent (Some b) e = absurd cc
+
 -- of two values that are put at one name the second stands
-pub put-put : (m : State) (n : Name) (v w : Content) → put (put m n v) n w ≡ put m n w
-put-put m n v w = ap (λ (es : List (Name × Content)). record { entries = es; room = m.room; limit = m.limit }) (insert-insert m.entries n v w)
+pub put-put : (m : State) (n : Name) (v w : Content) → m.block ≡ None → put (put m n v) n w ≡ put m n w
+put-put m n v w outside =
+    ap (λ (es : List (Name × Content)). record { entries = es; room = m.room; limit = m.limit; block = spent true (spent true m.block) }) (insert-insert m.entries n v w)
+    ∙ ap (λ (o : Option Began). record { entries = insert_entry same_name m.entries n w; room = m.room; limit = m.limit; block = o }) (unspent m.block outside)
 
 not_refused : (m : State) (n : Name) (old v : Content) → value_at m n ≡ Some old → cells_after m n v ≤ m.room → refusal m n v ≡ None
 not_refused m n old v there fits =

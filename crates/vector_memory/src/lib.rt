@@ -2,12 +2,17 @@
 //! A name's value is replaced in place, and a refused store changes nothing.
 #![tactic(auto)]
 
+mod block;
+mod entries;
 pub mod laws;
 mod memory;
 mod name;
 mod value;
 
-pub use memory::{ITEM_LIMIT, Memory, NAME_LIMIT, ROOM_LIMIT, StoreFault, is_lawful_room};
+pub use entries::Entries;
+pub use memory::{
+    CHANGE_LIMIT, ITEM_LIMIT, Memory, NAME_LIMIT, ROOM_LIMIT, StoreFault, is_lawful_room,
+};
 pub use name::Name;
 pub use segment_desc::OutOfMemory;
 pub use value::Value;

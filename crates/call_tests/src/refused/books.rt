@@ -1,5 +1,7 @@
 //! Books while memory is refused, beside a memory that is refused nothing.
 
+ghost use Rattle.std.specs.Prelude.{◌≡◌, None};
+
 use super::{ROOM, begin, each_word, end, holds, memory_text, opening, replied, text_of};
 use call_history::Book;
 use cvl_text::{Call, Reply};
@@ -69,7 +71,10 @@ fn runs_last<R: Abort + Alloc<A = Global> + Print>(
     book: &mut Book,
     memory: &mut Memory,
     line: &str,
-) -> Result<(), Fail> {
+) -> Result<(), Fail>
+    requires outside { memory.old.block ≡ None }
+    ensures stays { memory.new.block ≡ None }
+{
     let length = book.len() as u64;
     let (place, reply) = run(rt, book, line)?;
     assert!(rt; place == length);

@@ -1,5 +1,7 @@
 //! Steps on a memory while memory is refused, beside another memory that is refused nothing.
 
+ghost use Rattle.std.specs.Prelude.{◌≡◌, None};
+
 use super::{begin, each_word, end, holds, memory_text, opened, replied, text_of};
 use cvl_calls::{Spare, Stop, check, step_metered, step_with, work};
 use cvl_text::{Call, Fault, Reply};
@@ -16,7 +18,10 @@ pub(super) fn settled<R: Abort + Alloc<A = Global>>(
     line: &str,
     before: &[u8],
     reply: Result<Reply, OutOfMemory>,
-) -> Result<Vec<u8>, Fail> {
+) -> Result<Vec<u8>, Fail>
+    requires outside { memory.old.block ≡ None }
+    ensures stays { memory.new.block ≡ None }
+{
     if let Ok(reply) = reply {
         return text_of(rt.alloc(), &reply);
     }
@@ -25,11 +30,15 @@ pub(super) fn settled<R: Abort + Alloc<A = Global>>(
 }
 
 /// Runs a line by a step with a meter.
+#[tactic(auto, using(cvl_calls::proofs::BlockSteps::outside_may_change))]
 fn stepped<R: Abort + Alloc<A = Global> + Print>(
     rt: &R,
     memory: &mut Memory,
     line: &str,
-) -> Result<Vec<u8>, Fail> {
+) -> Result<Vec<u8>, Fail>
+    requires outside { memory.old.block ≡ None }
+    ensures stays { memory.new.block ≡ None }
+{
     let before = memory_text(rt.alloc(), memory)?;
     let call = Call::read(rt.alloc(), line.as_bytes())?;
     let mut meter = Meter::new();
@@ -41,12 +50,16 @@ fn stepped<R: Abort + Alloc<A = Global> + Print>(
 }
 
 /// Runs a line by a step whose result may lie in a vector that was kept.
+#[tactic(auto, using(cvl_calls::proofs::BlockSteps::outside_may_change))]
 fn stepped_with<R: Abort + Alloc<A = Global> + Print>(
     rt: &R,
     spare: &mut Spare,
     memory: &mut Memory,
     line: &str,
-) -> Result<Vec<u8>, Fail> {
+) -> Result<Vec<u8>, Fail>
+    requires outside { memory.old.block ≡ None }
+    ensures stays { memory.new.block ≡ None }
+{
     let before = memory_text(rt.alloc(), memory)?;
     let call = Call::read(rt.alloc(), line.as_bytes())?;
     let mut meter = Meter::new();
@@ -63,7 +76,10 @@ pub(super) fn agrees<R: Abort + Alloc<A = Global>>(
     other: &mut Memory,
     line: &str,
     text: &[u8],
-) -> Result<(), Fail> {
+) -> Result<(), Fail>
+    requires outside { other.old.block ≡ None }
+    ensures stays { other.new.block ≡ None }
+{
     let wanted = replied(rt.alloc(), other, line)?;
     assert!(rt; wanted.as_slice() == text);
     let held = memory_text(rt.alloc(), other)?;

@@ -1,7 +1,7 @@
 //! Machines while memory is refused to the calls that run what a caller asks, beside a memory that is refused nothing.
 
-ghost use Rattle.std.specs.Prelude.{◌≡◌, IfOk};
-ghost use Rattle.combiner.specs.Standing.{IsIdle, HasLeft};
+ghost use Rattle.std.specs.Prelude.{◌≡◌, None, IfOk};
+ghost use Rattle.combiner.specs.Standing.{IsIdle, HasLeftACall};
 
 use super::{ROOM, begin, each_word, end, holds, memory_text, opened, opening, replied, text_of};
 use combiner::{Caller, Shared};
@@ -39,7 +39,7 @@ fn leave(shared: &Shared, caller: &mut Caller, call: Call)
     requires machine { caller.old.machine ≡ shared.now }
     requires idle { IsIdle caller.old }
     ensures machine { caller.new.machine ≡ shared.now }
-    ensures left { HasLeft caller.new }
+    ensures left { HasLeftACall caller.new }
 {
     let Ok(()) = shared.post(caller, call) else {
         unreachable!()
@@ -137,8 +137,10 @@ fn runs_last<R: Abort + Alloc<A = Global> + Print + Threads + Wait + Sync>(
 ) -> Result<(), Fail>
     requires machine { caller.old.machine ≡ shared.now }
     requires idle { IsIdle caller.old }
+    requires outside { memory.old.block ≡ None }
     ensures machine { caller.new.machine ≡ shared.now }
     ensures idle { IsIdle caller.new }
+    ensures stays { memory.new.block ≡ None }
 {
     let length = shared.look(caller);
     let (place, text) = answer(rt, shared, caller, way, line)?;
@@ -157,7 +159,8 @@ fn runs_each<R: Abort + Alloc<A = Global> + Print + Threads + Wait + Sync>(
 ) -> Result<(), Fail>
     requires machine { caller.old.machine ≡ shared.now }
     requires idle { IsIdle caller.old }
-    ensures { caller.new.machine ≡ shared.now }
+    requires outside { memory.old.block ≡ None }
+    ensures machine { caller.new.machine ≡ shared.now }
 {
     for line in opening().lines().chain(each_word().lines()) {
         runs_last(rt, shared, caller, way, memory, line)?;
@@ -229,7 +232,9 @@ fn told<R: Abort + Alloc<A = Global>>(
     asked: &Result<(u64, Reply), (Call, OutOfMemory)>,
     memory: &mut Memory,
     line: &str,
-) -> Result<usize, Fail> {
+) -> Result<usize, Fail>
+    requires outside { memory.old.block ≡ None }
+{
     match asked {
         Ok((_, reply)) => {
             let text = text_of(rt.alloc(), reply)?;

@@ -1,7 +1,7 @@
 //! The parts of a step while memory is refused: a call is judged, its kernel is run, alone or joined, and what that made is
 //! stored or replied.
 
-ghost use Rattle.std.specs.Prelude.{◌≡◌, IfOk, IfSome, IsTrue};
+ghost use Rattle.std.specs.Prelude.{◌≡◌, None, IfOk, IfSome, IsTrue};
 ghost use Rattle.cvl_text.specs.Tasks.{task_of};
 ghost use Rattle.cvl_calls.specs.Judging.{IsReady, made, word_of};
 ghost use Rattle.cvl_calls.specs.Outcomes.{IsFittingEffect, effect_of};
@@ -63,11 +63,15 @@ fn product<R: Abort + Alloc<A = Global> + Print>(
 }
 
 /// Runs a line by its parts.
+#[tactic(auto, using(cvl_calls::proofs::BlockSteps::outside_may_change, cvl_calls::proofs::BlockSteps::applies_outside))]
 fn runs_by_parts<R: Abort + Alloc<A = Global> + Print>(
     rt: &R,
     memory: &mut Memory,
     line: &str,
-) -> Result<Vec<u8>, Fail> {
+) -> Result<Vec<u8>, Fail>
+    requires outside { memory.old.block ≡ None }
+    ensures stays { memory.new.block ≡ None }
+{
     let before = memory_text(rt.alloc(), memory)?;
     let call = Call::read(rt.alloc(), line.as_bytes())?;
     let Some(product) = product(rt, None, memory, &call)? else {
@@ -80,12 +84,16 @@ fn runs_by_parts<R: Abort + Alloc<A = Global> + Print>(
 }
 
 /// Runs a line by its parts, with vectors that were kept.
+#[tactic(auto, using(cvl_calls::proofs::BlockSteps::outside_may_change, cvl_calls::proofs::BlockSteps::applies_outside))]
 fn runs_by_parts_with<R: Abort + Alloc<A = Global> + Print>(
     rt: &R,
     spare: &mut Spare,
     memory: &mut Memory,
     line: &str,
-) -> Result<Vec<u8>, Fail> {
+) -> Result<Vec<u8>, Fail>
+    requires outside { memory.old.block ≡ None }
+    ensures stays { memory.new.block ≡ None }
+{
     let before = memory_text(rt.alloc(), memory)?;
     let call = Call::read(rt.alloc(), line.as_bytes())?;
     let Some(product) = product(rt, Some(spare), memory, &call)? else {

@@ -1,6 +1,6 @@
 //! Calls read and replies written while memory is refused.
 
-use super::{begin, each_word, end, opened, text_of};
+use super::{begin, each_word, end, may_change, opened, text_of};
 use cvl_calls::step;
 use cvl_text::{Call, ReadFault, Reply};
 use scan_kernels::Sequential;
@@ -48,6 +48,9 @@ fn writes_each_reply(rt: HostRuntime) -> Result<(), Fail> {
     let mut memory = opened(rt.alloc())?;
     for line in each_word().lines() {
         let call = Call::read(rt.alloc(), line.as_bytes())?;
+        if !may_change(&memory) {
+            Err("in a block")?;
+        }
         let reply = step(&Sequential, rt.alloc(), &mut memory, &call)?;
         writes(&rt, &reply, &text_of(rt.alloc(), &reply)?)?;
     }

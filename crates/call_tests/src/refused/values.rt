@@ -1,6 +1,6 @@
 //! Memories, values and segment lists while memory is refused.
 
-ghost use Rattle.std.specs.Prelude.{IfOk};
+ghost use Rattle.std.specs.Prelude.{◌≡◌, None, IfOk};
 ghost use Rattle.vector_memory.specs.Contents.{content_of};
 ghost use Rattle.vector_memory.specs.States.{FitsLimits};
 
@@ -12,7 +12,9 @@ use std::test::Fail;
 use vector_memory::{Memory, Name, StoreFault, Value};
 
 /// A new memory, made again where memory is refused.
-fn new_memory<R: Alloc<A = Global> + Print>(rt: &R) -> Result<Memory, Fail> {
+fn new_memory<R: Alloc<A = Global> + Print>(rt: &R) -> Result<Memory, Fail>
+    ensures { IfOk result (λ memory. memory.block ≡ None) }
+{
     begin(rt)?;
     let memory = Memory::new(rt.alloc(), ROOM);
     end(rt)?;
@@ -39,13 +41,16 @@ fn numbered(alloc: Global, number: u32) -> Result<Name, Fail> {
 }
 
 /// Stores a value under a new name, by one of the two calls for it.
+#[tactic(auto, using(cvl_calls::proofs::BlockSteps::outside_may_change, cvl_calls::proofs::BlockSteps::put_outside))]
 fn store(
     memory: &mut Memory,
     name: Name,
     value: Value,
     is_given_back: bool,
 ) -> Result<(), StoreFault>
-    requires { FitsLimits memory.old.limit (content_of value) }
+    requires fits { FitsLimits memory.old.limit (content_of value) }
+    requires outside { memory.old.block ≡ None }
+    ensures stays { memory.new.block ≡ None }
 {
     if !is_given_back {
         return memory.store(name, value);
@@ -57,12 +62,16 @@ fn store(
 }
 
 /// Stores a value under a new name. Where memory is refused the memory has not changed, and the value is stored again.
+#[tactic(auto, using(cvl_calls::proofs::BlockSteps::outside_may_change, cvl_calls::proofs::BlockSteps::put_outside))]
 fn stores<R: Abort + Alloc<A = Global> + Print>(
     rt: &R,
     memory: &mut Memory,
     name: Name,
     is_given_back: bool,
-) -> Result<(), Fail> {
+) -> Result<(), Fail>
+    requires outside { memory.old.block ≡ None }
+    ensures stays { memory.new.block ≡ None }
+{
     let before = memory_text(rt.alloc(), memory)?;
     let value = seven(rt.alloc(), memory.limit())?;
     begin(rt)?;

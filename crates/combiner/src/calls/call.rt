@@ -54,7 +54,7 @@ impl Shared {
             }
         }
         caller.leads = false;
-        self.leave(caller, call);
+        self.leave_call(caller, call);
         self.ask(&Sequential, rt, alloc, caller, FIRST_PAUSE)
     }
 }

@@ -13,10 +13,10 @@ use scan_kernels::Execution;
 use std::alloc::Global;
 
 impl Shared {
-    /// Serves all calls that are left, unless another caller has the book, which cannot be with one caller. It does not wait.
-    /// They are one batch: planned in waves, and alike calls of a wave run as one kernel run.
-    /// The caller has then seen the whole history, and if it has left a call, it is settled: its next poll tells what became
-    /// of that.
+    /// Serves all calls and blocks that are left, unless another caller has the book, which cannot be with one caller. It does not wait.
+    /// They are one batch: planned in waves, and alike calls of a wave run as one kernel run. The calls of a block run one by one, at
+    /// its place in its wave. The caller has then seen the whole history, and if it has left something, it is settled: its next poll
+    /// tells what became of that.
     pub fn combine(
         &self,
         execution: &impl Execution,

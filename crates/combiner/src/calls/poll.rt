@@ -1,7 +1,7 @@
 ghost use Rattle.std.specs.Prelude.{◌≡◌, false};
 ghost use Rattle.combiner.specs.Standing.{IsIdle, HasLeft, Rests};
-ghost use Rattle.combiner.specs.Cases.{OnIdle, OnWaiting, IfAnswered, IfBack};
-ghost use Rattle.combiner.specs.Says.{IsAnswered, IsGivenBack};
+ghost use Rattle.combiner.specs.Cases.{OnIdle, OnWaiting, IfAnswered, IfBack, IfBlockAnswered, IfBlockBack};
+ghost use Rattle.combiner.specs.Says.{IsAnswered, IsBlockAnswered, IsBlockGivenBack, IsGivenBack};
 
 use crate::answers::Polled;
 use crate::caller::Caller;
@@ -9,7 +9,7 @@ use crate::shared::Shared;
 use call_history::Outcome;
 
 impl Shared {
-    /// What became of the call that the caller left. It does not wait, and a settled caller is never told to.
+    /// What became of the call or of the block that the caller left. It does not wait, and a settled caller is never told to.
     pub fn poll(&self, caller: &mut Caller) -> Polled
         requires { caller.old.machine ≡ self.now }
         ensures machine { caller.new.machine ≡ self.now }
@@ -18,6 +18,8 @@ impl Shared {
         ensures unsettled { OnWaiting result (caller.old.settled ≡ false) }
         ensures answered { IfAnswered result (IsAnswered caller.old caller.new) }
         ensures back { IfBack result (IsGivenBack caller.old caller.new) }
+        ensures block_answered { IfBlockAnswered result (IsBlockAnswered caller.old caller.new) }
+        ensures block_back { IfBlockBack result (IsBlockGivenBack caller.old caller.new) }
         ensures rests { Rests caller.new }
     {
         if caller.seat.is_idle() {
@@ -29,6 +31,8 @@ impl Shared {
         match outcome {
             Outcome::Answered { place, reply } => Polled::Answered { place, reply },
             Outcome::Refused(call) => Polled::OutOfMemory(call),
+            Outcome::AnsweredBlock { place, replies } => Polled::AnsweredBlock { place, replies },
+            Outcome::RefusedBlock(calls) => Polled::OutOfMemoryBlock(calls),
         }
     }
 }

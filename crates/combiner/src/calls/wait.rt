@@ -1,6 +1,6 @@
 ghost use Rattle.std.specs.Prelude.{◌≡◌, IfOk, IfErr, OnErr};
 ghost use Rattle.call_history.specs.History.{Begins};
-ghost use Rattle.combiner.specs.Standing.{IsIdle, HasLeft, Rests};
+ghost use Rattle.combiner.specs.Standing.{IsIdle, HasLeftACall, Rests};
 ghost use Rattle.combiner.specs.Says.{IsAnsweredAtLast, IsWhatWasLeft, KeepsNotes};
 
 use crate::answers::{Combined, Polled};
@@ -30,7 +30,7 @@ impl Shared {
         caller: &mut Caller,
     ) -> Result<(u64, Reply), (Call, OutOfMemory)>
         requires machine { caller.old.machine ≡ self.now }
-        requires left { HasLeft caller.old }
+        requires left { HasLeftACall caller.old }
         ensures machine { caller.new.machine ≡ self.now }
         ensures number { caller.new.number ≡ caller.old.number }
         ensures room { caller.new.room ≡ caller.old.room }
@@ -54,7 +54,7 @@ impl Shared {
         caller: &mut Caller,
     ) -> Result<(u64, Reply), (Call, OutOfMemory)>
         requires machine { caller.old.machine ≡ self.now }
-        requires left { HasLeft caller.old }
+        requires left { HasLeftACall caller.old }
         ensures machine { caller.new.machine ≡ self.now }
         ensures number { caller.new.number ≡ caller.old.number }
         ensures room { caller.new.room ≡ caller.old.room }
@@ -79,7 +79,7 @@ impl Shared {
         first: u32,
     ) -> Result<(u64, Reply), (Call, OutOfMemory)>
         requires machine { caller.old.machine ≡ self.now }
-        requires left { HasLeft caller.old }
+        requires left { HasLeftACall caller.old }
         ensures machine { caller.new.machine ≡ self.now }
         ensures number { caller.new.number ≡ caller.old.number }
         ensures room { caller.new.room ≡ caller.old.room }
@@ -99,6 +99,8 @@ impl Shared {
                 Polled::OutOfMemory(call) => return Err((call, OutOfMemory)),
                 Polled::Waiting => {}
                 Polled::Idle => unreachable!(),
+                Polled::AnsweredBlock { .. } => unreachable!(),
+                Polled::OutOfMemoryBlock(_) => unreachable!(),
             }
             turns = match self.combine(execution, alloc, caller) {
                 Combined::Busy => longer(turns),
@@ -110,7 +112,7 @@ impl Shared {
 }
 
 // Lets so many turns pass, and hands the processor on where that is the longest pause.
-fn pause(turns: u32) {
+pub(crate) fn pause(turns: u32) {
     for _ in 0..turns {
         hint::spin_loop();
     }
@@ -120,7 +122,7 @@ fn pause(turns: u32) {
 }
 
 // How many turns follow on so many, where another caller has the book: twice as many.
-fn longer(turns: u32) -> u32 {
+pub(crate) fn longer(turns: u32) -> u32 {
     if turns < FIRST_PAUSE {
         return FIRST_PAUSE;
     }

@@ -59,6 +59,7 @@ fn call_alone(
     match shared.poll(caller) {
         Polled::Answered { place, reply } => Some((place, reply)),
         Polled::OutOfMemory(_) => None,
+        Polled::AnsweredBlock { .. } | Polled::OutOfMemoryBlock(_) => None,
         Polled::Waiting => unreachable!(),
         Polled::Idle => unreachable!(),
     }

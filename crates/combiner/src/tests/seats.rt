@@ -4,7 +4,7 @@ ghost use Rattle.std.specs.Prelude.{◌≡◌, ◌+◌, ◌<◌, ◌≤◌, None
 ghost use Rattle.vector_memory.specs.States.{IsLawfulRoom};
 ghost use Rattle.request_slots.specs.Seating.{IsNewSeatAt};
 
-use call_history::Book;
+use call_history::{Book, Job};
 use cvl_text::Call;
 use request_slots::{Desk, Seat, Slots};
 use std::alloc::Global;
@@ -43,7 +43,7 @@ fn waits(slots: &Slots, seat: &mut Seat, call: Call) -> bool
     ensures place { seat.new.standing.machine ≡ slots.now }
     ensures no_desk { seat.new.pass ≡ None }
 {
-    slots.step_post(seat, call);
+    slots.step_post(seat, Job::One(call));
     slots.step_collect(seat).is_none()
 }
 

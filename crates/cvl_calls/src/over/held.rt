@@ -32,10 +32,11 @@ pub(crate) fn is_ints(memory: &Memory, name: &Name) -> bool
     }
 }
 
-/// Takes the integers of a name out of the memory, which leaves none of them at the name.
-#[tactic(auto, using(vector_memory::proofs::Putting::fits_in_place))]
+/// Takes the integers of a name out of the memory, outside a block, which leaves none of them at the name.
+#[tactic(auto, using(vector_memory::proofs::Putting::fits_in_place, crate::proofs::BlockSteps::outside_may_change))]
 pub(crate) fn take(alloc: Global, memory: &mut Memory, name: Name) -> Vec<i64>
-    requires { IsInts memory.old name }
+    requires ints { IsInts memory.old name }
+    requires outside { memory.old.block ≡ None }
     ensures items { value_at memory.old name ≡ Some (Ints result.items) }
     ensures memory { memory.new ≡ put memory.old name (Ints []) }
 {

@@ -1,6 +1,6 @@
 //! A call on one vector whose result is written over it.
 
-ghost use Rattle.std.specs.Prelude.{◌≡◌, ℤ, List, Ok, Some, true, is_ok, length};
+ghost use Rattle.std.specs.Prelude.{◌≡◌, ℤ, List, Ok, None, Some, true, is_ok, length};
 ghost use Rattle.item_operations.specs.IntegerOps.{alter_z};
 ghost use Rattle.item_operations.specs.IntegerScans.{combine_z, unit_z};
 ghost use Rattle.scan_kernels.specs.Metering.{raised};
@@ -44,7 +44,8 @@ fn changed(meter: &mut Meter, change: Change, xs: Vec<i64>) -> Vec<i64>
 
 /// Changes the integers of a name.
 fn change_over(alloc: Global, meter: &mut Meter, memory: &mut Memory, change: Change, to: Name)
-    requires { IsInts memory.old to }
+    requires ints { IsInts memory.old to }
+    requires outside { memory.old.block ≡ None }
     ensures step { (xs : List ℤ) → value_at memory.old to ≡ Some (Ints xs)
         → followed memory.old (Some to) (Ok (Stores (Ints (made_by change xs)))) ≡ record { memory = memory.new; answer = Done } }
     ensures counted { meter.new ≡ raised meter.old }
@@ -57,7 +58,8 @@ fn change_over(alloc: Global, meter: &mut Meter, memory: &mut Memory, change: Ch
 
 /// The step of `to = OP to`.
 pub(crate) fn alter_over(alloc: Global, meter: &mut Meter, memory: &mut Memory, op: Z1, to: Name)
-    requires { IsInts memory.old to }
+    requires ints { IsInts memory.old to }
+    requires outside { memory.old.block ≡ None }
     ensures step { followed memory.old (Some to) (map_one integers integers (alter_z op) (Held (value_at memory.old to))) ≡ record { memory = memory.new; answer = Done } }
     ensures works { is_ok (map_one integers integers (alter_z op) (Held (value_at memory.old to))) ≡ true }
     ensures counted { meter.new ≡ raised meter.old }
@@ -67,7 +69,8 @@ pub(crate) fn alter_over(alloc: Global, meter: &mut Meter, memory: &mut Memory, 
 
 /// The step of `to = OP to`, of a scan.
 pub(crate) fn scan_over(alloc: Global, meter: &mut Meter, memory: &mut Memory, op: ScanZ, to: Name)
-    requires { IsInts memory.old to }
+    requires ints { IsInts memory.old to }
+    requires outside { memory.old.block ≡ None }
     ensures step { followed memory.old (Some to) (scan integers (combine_z op) (unit_z op) (Held (value_at memory.old to))) ≡ record { memory = memory.new; answer = Done } }
     ensures works { is_ok (scan integers (combine_z op) (unit_z op) (Held (value_at memory.old to))) ≡ true }
     ensures counted { meter.new ≡ raised meter.old }

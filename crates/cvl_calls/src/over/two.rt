@@ -1,6 +1,6 @@
 //! A call on two vectors whose result is written over one of them.
 
-ghost use Rattle.std.specs.Prelude.{◌≡◌, Some, true, false, not, is_ok, length, All, IsTrue};
+ghost use Rattle.std.specs.Prelude.{◌≡◌, None, Some, true, false, not, is_ok, length, All, IsTrue};
 ghost use Rattle.item_operations.specs.IntegerOps.{IsAllowed, apply_z};
 ghost use Rattle.scan_kernels.specs.Elementwise.{item_by_item};
 ghost use Rattle.scan_kernels.specs.Metering.{raised};
@@ -64,6 +64,7 @@ fn apply_over_first(
 )
     requires apart { same_name to b.now ≡ false }
     requires can { CanApply memory.old op to b.now }
+    requires outside { memory.old.block ≡ None }
     ensures step { followed memory.old (Some to) (map_two integers integers (seconds op) (apply_z op) (Held (value_at memory.old to)) (Held (value_at memory.old b.now)))
         ≡ record { memory = memory.new; answer = Done } }
     ensures works { is_ok (map_two integers integers (seconds op) (apply_z op) (Held (value_at memory.old to)) (Held (value_at memory.old b.now))) ≡ true }
@@ -103,6 +104,7 @@ fn apply_over_second(
 )
     requires apart { same_name to a.now ≡ false }
     requires can { CanApply memory.old op a.now to }
+    requires outside { memory.old.block ≡ None }
     ensures step { followed memory.old (Some to) (map_two integers integers (seconds op) (apply_z op) (Held (value_at memory.old a.now)) (Held (value_at memory.old to)))
         ≡ record { memory = memory.new; answer = Done } }
     ensures works { is_ok (map_two integers integers (seconds op) (apply_z op) (Held (value_at memory.old a.now)) (Held (value_at memory.old to))) ≡ true }
@@ -129,6 +131,7 @@ pub(crate) fn map_over(
 )
     requires can { CanApply memory.old op a.now b.now }
     requires either { same_name to a.now ≡ not (same_name to b.now) }
+    requires outside { memory.old.block ≡ None }
     ensures step { followed memory.old (Some to) (map_two integers integers (seconds op) (apply_z op) (Held (value_at memory.old a.now)) (Held (value_at memory.old b.now)))
         ≡ record { memory = memory.new; answer = Done } }
     ensures works { is_ok (map_two integers integers (seconds op) (apply_z op) (Held (value_at memory.old a.now)) (Held (value_at memory.old b.now))) ≡ true }

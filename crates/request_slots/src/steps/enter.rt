@@ -1,4 +1,5 @@
 ghost use Rattle.std.specs.Prelude.{◌≡◌, Some};
+ghost use Rattle.call_history.specs.Blocks.{Whole};
 ghost use Rattle.request_slots.specs.Fronts.{IsOfCallers};
 ghost use Rattle.request_slots.specs.Passes.{fresh_pass};
 ghost use Rattle.request_slots.specs.Standing.{callers_of, IsIdle, Rests};
@@ -23,6 +24,7 @@ impl Slots {
         ensures known { seat.new ≡ entering_line seat.old book.now.history }
         ensures rests { Rests seat.new.standing }
         ensures no_strangers { IsOfCallers (callers_of seat.new.standing.machine) seat.new.standing.seen }
+        ensures whole { Whole seat.new.standing.seen }
     {
         self.enter_as::<Brand>(seat, book)
     }
@@ -37,6 +39,7 @@ impl Slots {
         ensures known { seat.new ≡ entering_line seat.old B.line }
         ensures rests { Rests seat.new.standing }
         ensures no_strangers { IsOfCallers (callers_of seat.new.standing.machine) seat.new.standing.seen }
+        ensures whole { Whole seat.new.standing.seen }
     {
         let length = book.len() as u64;
         self.table

@@ -1,4 +1,5 @@
 ghost use Rattle.std.specs.Prelude.{◌≡◌, length};
+ghost use Rattle.call_history.specs.Blocks.{Whole};
 ghost use Rattle.call_history.specs.History.{Begins};
 ghost use Rattle.request_slots.specs.Fronts.{IsOfCallers};
 ghost use Rattle.request_slots.specs.Standing.{callers_of, Rests};
@@ -11,7 +12,8 @@ use crate::seat::Seat;
 use crate::slots::Slots;
 
 impl Slots {
-    /// The length of the history committed, all of which the caller has then seen: calls of callers of the table alone.
+    /// The length of the history committed, all of which the caller has then seen: calls of callers of the table alone, and of no
+    /// block a part.
     pub fn step_look(&self, seat: &mut Seat) -> u64
         requires place { seat.old.standing.machine ≡ self.now }
         ensures place { seat.new.standing.machine ≡ self.now }
@@ -20,6 +22,7 @@ impl Slots {
         ensures length { result ≡ length seat.new.standing.seen }
         ensures rests { Rests seat.new.standing }
         ensures no_strangers { IsOfCallers (callers_of seat.new.standing.machine) seat.new.standing.seen }
+        ensures whole { Whole seat.new.standing.seen }
     {
         self.table.shared.load::<Look>(&mut seat.seat, LENGTH)
     }
@@ -33,6 +36,7 @@ impl Slots {
         ensures told { Begins other.old.standing.seen seat.new.standing.seen }
         ensures rests { Rests seat.new.standing }
         ensures no_strangers { IsOfCallers (callers_of seat.new.standing.machine) seat.new.standing.seen }
+        ensures whole { Whole seat.new.standing.seen }
         ensures other { other.new ≡ other.old }
     {
         let shared = &self.table.shared;

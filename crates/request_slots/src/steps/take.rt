@@ -1,4 +1,5 @@
 ghost use Rattle.std.specs.Prelude.{◌≡◌, ◌+◌, ◌<◌, true, false, IfSome, IfNone};
+ghost use Rattle.call_history.specs.Fits.{IsLawfulJob};
 ghost use Rattle.request_slots.specs.Passes.{is_in, takes_on, tries};
 ghost use Rattle.request_slots.specs.Views.{pass_in, passing, HasDesk};
 
@@ -32,8 +33,9 @@ impl Slots {
         requires untried { is_in (pass_in seat.old).tried i ≡ false }
         ensures place { seat.new.standing.machine ≡ self.now }
         ensures caller { IfSome result (λ r. r.caller ≡ i) }
+        ensures lawful { IfSome result (λ r. IsLawfulJob r.job) }
         ensures won { IfSome result (λ r. seat.new
-            ≡ passing seat.old (takes_on (pass_in seat.old) i r.call)) }
+            ≡ passing seat.old (takes_on (pass_in seat.old) i r.job)) }
         ensures lost { IfNone result (seat.new ≡ passing seat.old (tries (pass_in seat.old) i)) }
     {
         let shared = &self.table.shared;
@@ -45,14 +47,14 @@ impl Slots {
             turn_times(&mut seat.seat, behind);
             return None;
         }
-        let Slot::Asked(call) = shared.exchange(&mut seat.seat, slot_at(i), Slot::Nothing) else {
+        let Slot::Asked(job) = shared.exchange(&mut seat.seat, slot_at(i), Slot::Nothing) else {
             unreachable!()
         };
         turn_times(&mut seat.seat, 1 + behind);
         seat.taken[i] = true;
         Some(Request {
             caller: i as u64,
-            call,
+            job,
         })
     }
 }

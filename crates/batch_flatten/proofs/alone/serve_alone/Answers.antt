@@ -1,4 +1,6 @@
-use Rattle.std.proofs.Common.{rules, ◌≡◌, ◌∙◌, [], ◌∷◌, ◌++◌, ap}
+use Rattle.std.proofs.Common.{rules, ◌≡◌, ◌∙◌, [], ◌∷◌, ◌++◌, List, ap}
+use Rattle.call_history.specs.declared.request.Request.{Request}
+use Rattle.call_history.specs.declared.request.Outcome.{Outcome}
 use Rattle.batch_flatten.proofs.AloneLemmas.{alone-served}
 use Rattle.batch_flatten.proofs.alone.serve_alone.Goals as goal
 
@@ -8,6 +10,6 @@ returns-clause-serves g c =
     let ran = c.run_onto.ensures.ran in
     let o = ran.0 in
     let none : c.pop.new.self.items ≡ [] = search rules in
-    let asked : c.args.requests.now.items ≡ r ∷ [] = c.in-Some.ensures.items ∙ ap (λ l. l ++ r ∷ []) none in
-    let said : c.run_onto.new.outcomes.items ≡ o ∷ [] = ran.1 ∙ ap (λ l. l ++ o ∷ []) c.requires.empty in
-    alone-served c.args.book.now.room c.args.book.now.history c.args.requests.now.items c.run_onto.new.outcomes.items r c.reserve.new.self c.run_onto.new.book o asked said c.in-Ok.ensures.room c.in-Ok.ensures.history ran.3
+    let asked : c.args.requests.now.items ≡ r ∷ [] = ◌∙◌ {A = List Request} c.in-Some.ensures.items (ap (λ l. l ++ r ∷ []) none) in
+    let said : c.run_onto.new.outcomes.items ≡ o ∷ [] = ◌∙◌ {A = List Outcome} ran.1 (ap (λ l. l ++ o ∷ []) c.requires.empty) in
+    alone-served c.args.book.now.room c.args.book.now.history c.args.requests.now.items c.run_onto.new.outcomes.items r c.reserve.new.self c.run_onto.new.book o asked said c.len-entries.ensures.whole c.in-Ok.ensures.room c.in-Ok.ensures.history ran.3

@@ -11,9 +11,9 @@ loop-i-preserved c =
     let d = c.index-requests-i.result in
     let lt : i < length rs = omega arith in
     let long = c.loop-i.invariant.long in
-    let word = c.call_word.result in
+    let word = c.job_word.result in
     record {
       noted = take_more_set c.loop-i.words i word (omega arith) ∙ ap (λ l. l ++ word ∷ []) c.loop-i.invariant.noted
-          ∙ ap (λ (w : Word). map word_asked (take i rs) ++ w ∷ []) c.call_word.ensures ∙ sym (map_more word_asked rs i d lt);
+          ∙ ap (λ (w : Word). map word_asked (take i rs) ++ w ∷ []) c.job_word.ensures ∙ sym (map_more word_asked rs i d lt);
       long = length-set c.loop-i.words i word ∙ long;
     }

@@ -1,6 +1,9 @@
 use Rattle.std.proofs.Common.{rules, ◌≡◌, List, length, map, subst, sym}
-use Rattle.std.specs.List.{range_with_len}
+use Rattle.std.specs.List.{AllByRecursion, range_with_len}
+use Rattle.call_history.specs.declared.request.Job.TheVariants.{One}
 use Rattle.call_history.specs.declared.request.Request.{Request}
+use Rattle.call_history.specs.Fits.{IsLawfulJob}
+use Rattle.call_history.proofs.Serving.{lawful-push}
 use Rattle.batch_flatten.specs.Serving.{caller_of}
 use Rattle.batch_flatten.proofs.CallerLemmas.{counted-push}
 use Rattle.batch_tests.proofs.asking.batch_of.Goals as goal
@@ -9,8 +12,9 @@ pub loop-line-preserved : goal.loop-line-preserved
 loop-line-preserved c =
     let rs = c.loop-line.requests.items in
     let next : c.len-caller.result ≡ length rs = search rules in
+    let asked : Request = record { caller = c.len-caller.result; job = One c.in_ok-call.call } in
     record {
       few = search rules;
-      callers = subst (λ (l : List Request). map caller_of l ≡ range_with_len 0 (length l)) (sym {A = List Request} c.in_ok-push.ensures.items)
-          (counted-push rs (record { caller = c.len-caller.result; call = c.in_ok-call.call }) next c.loop-line.invariant.callers);
+      callers = subst (λ (l : List Request). map caller_of l ≡ range_with_len 0 (length l)) (sym {A = List Request} c.in_ok-push.ensures.items) (counted-push rs asked next c.loop-line.invariant.callers);
+      jobs = subst (AllByRecursion (λ r. IsLawfulJob r.job)) (sym {A = List Request} c.in_ok-push.ensures.items) (lawful-push rs asked c.loop-line.invariant.jobs tt);
     }

@@ -12,5 +12,8 @@ pub apply_with-requires : goal.apply_with-requires
 apply_with-requires c =
     let task = task_of c.args.call.now in
     let m = c.args.memory.now in
-    let told = subst (λ (w : Work). IsWork w (work_on m task)) c.in-Store.is c.requires in
-    (subst (MakesFitting m.limit) told (work-fits m.limit task.word (operands_of m task.arguments) (operands_of-fits m task.arguments c.memories_are_lawful.ensures))).fits
+    let told = subst (λ (w : Work). IsWork w (work_on m task)) c.in-Store.is c.requires.work in
+    record {
+      fits = (subst (MakesFitting m.limit) told (work-fits m.limit task.word (operands_of m task.arguments) (operands_of-fits m task.arguments c.memories_are_lawful.ensures))).fits;
+      may_change = c.requires.may_change;
+    }

@@ -1,5 +1,5 @@
-use Rattle.std.proofs.Common.{◌≡◌, ◌+◌, ◌++◌, ◌∷◌, [], length, slice_index, refl, subst, sym, ap, ◌∙◌, arith}
-use Rattle.call_history.specs.History.{entry}
+use Rattle.std.proofs.Common.{◌≡◌, ◌++◌, ◌∷◌, [], length, slice_index, refl, subst, sym, ap, ◌∙◌, arith}
+use Rattle.call_history.specs.History.{entry_before}
 use Rattle.call_history.specs.Callers.{IsTicketed, calls_by}
 use Rattle.call_history.proofs.CallerLemmas.{calls_by-le, ticketed-push}
 use Rattle.call_history.proofs.book.enter.Goals as goal
@@ -15,7 +15,7 @@ overflow_add-ticket c =
 pub returns-clause-ticketed : goal.returns-clause-ticketed
 returns-clause-ticketed c =
     let history = c.args.entries.now.items in
-    let added = entry c.args.caller (length (calls_by c.args.caller history)) c.args.call in
+    let added = entry_before c.args.caller (length (calls_by c.args.caller history)) c.args.call c.args.rest in
     let known = ap (λ t. slice_index t c.args.caller) c.deref.ensures ∙ c.requires.counted c.args.caller c.requires.caller in
-    let items : c.push_reserved.new.self.items ≡ history ++ added ∷ [] = c.push_reserved.ensures.items ∙ ap (λ n. history ++ entry c.args.caller n c.args.call ∷ []) known in
+    let items : c.push_reserved.new.self.items ≡ history ++ added ∷ [] = c.push_reserved.ensures.items ∙ ap (λ n. history ++ entry_before c.args.caller n c.args.call c.args.rest ∷ []) known in
     subst IsTicketed (sym items) (ticketed-push history added c.requires.ticketed refl)

@@ -12,6 +12,11 @@ run_batch-ran-requires-clause-lawful g c κs within =
     let same : c.deref_mut-open.result.now.requests.items ≡ c.args.desk.value.requests.items = search rules in
     (subst (IsBatch c.args.callers) (sym same) (taking_batch _ _ c.args.callers _ _ c.requires.callers.1 c.requires.ready.taken)).lawful
 
+pub run_batch-ran-requires-clause-jobs : goal.run_batch-ran-requires-clause-jobs
+run_batch-ran-requires-clause-jobs g c κs within =
+    let same : c.deref_mut-open.result.now.requests.items ≡ c.args.desk.value.requests.items = search rules in
+    (subst (IsBatch c.args.callers) (sym same) (taking_batch _ _ c.args.callers _ _ c.requires.callers.1 c.requires.ready.taken)).jobs
+
 pub run_batch-ran-requires-clause-distinct : goal.run_batch-ran-requires-clause-distinct
 run_batch-ran-requires-clause-distinct g c κs within =
     let same : c.deref_mut-open.result.now.requests.items ≡ c.args.desk.value.requests.items = search rules in

@@ -17,7 +17,7 @@ loop-i-preserved c =
           let long : length c.loop-i.numbers ≡ 64 = sym (length-set c.loop-i.numbers w.len.result i) ∙ (ap length (sym w.numbers-is) ∙ c.match-step_take.array_long) in
           let room : length c.loop-i.requests.items < length c.loop-i.numbers = omega arith in (
             taking_same _ _ _ _ _ _ _ (ap (λ v. v.items) w.requests-is ∙ w.push_reserved.ensures.items) (w.numbers-is ∙ ap (λ (k : ℕ). set c.loop-i.numbers k i) at)
-                (taking_hits _ _ _ i w.in-Some.request c.loop-i.requests.items c.loop-i.numbers w.in-Some.ensures.caller w.in-Some.ensures.won room t),
+                (taking_hits _ _ _ i w.in-Some.request c.loop-i.requests.items c.loop-i.numbers w.in-Some.ensures.caller w.in-Some.ensures.lawful w.in-Some.ensures.won room t),
             w.in-Some.ensures.place,
             ap (λ v. vec_capacity v) w.requests-is ∙ (w.push_reserved.ensures.capacity ∙ c.loop-i.invariant.2),
           )

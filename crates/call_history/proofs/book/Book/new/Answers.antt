@@ -3,6 +3,7 @@ use Rattle.vector_memory.specs.States.{State, empty}
 use Rattle.call_history.specs.declared.entry.Entry.{Entry}
 use Rattle.call_history.specs.History.{replay}
 use Rattle.call_history.specs.Callers.{IsTicketed, HasLawfulCallers, calls_by}
+use Rattle.call_history.specs.Blocks.{Whole}
 use Rattle.call_history.proofs.book.Book.new.Goals as goal
 
 zeros : (n k : ℕ) → slice_index (replicate n 0) k ≡ 0
@@ -21,5 +22,6 @@ invariant_of-result c =
       replayed = replayed-new c.in_ok-new.field-0 c.args.room c.new-2.result.items c.in_ok-new.ensures c.new-2.ensures.items;
       ticketed = subst IsTicketed none (λ k. refl);
       lawful_callers = subst HasLawfulCallers none tt;
+      whole = subst Whole none tt;
       counted = λ k below. ap (λ t. slice_index t k) c.in_ok-new-2.ensures.ok ∙ zeros 64 k ∙ ap (λ es. length (calls_by k es)) none;
     }

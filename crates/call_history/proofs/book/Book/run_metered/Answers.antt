@@ -1,12 +1,19 @@
-use Rattle.std.proofs.Common.{◌≡◌, ◌++◌, ◌∷◌, [], Ok, Err, subst, sym, ap, ◌∙◌}
+use Rattle.std.proofs.Common.{◌≡◌, ◌++◌, ◌∷◌, [], Ok, Err, refl, subst, sym, ap, ◌∙◌}
 use Rattle.cvl_text.specs.Tasks.{task_of}
 use Rattle.cvl_calls.specs.Steps.{CountsStep, runs_on, stepped}
 use Rattle.call_history.specs.Books.{memory_of}
 use Rattle.call_history.specs.History.{replay}
 use Rattle.call_history.specs.Callers.{next_entry}
 use Rattle.call_history.proofs.Counting.{counts_nothing, counts_refused, counts_answered}
-use Rattle.call_history.proofs.Replays.{room-stepped, replay-push}
+use Rattle.cvl_calls.proofs.BlockSteps.{room-stepped}
+use Rattle.call_history.specs.Blocks.{Whole}
+use Rattle.call_history.proofs.Blocks.{Whole-push}
+use Rattle.call_history.proofs.Outside.{book_may_change}
+use Rattle.call_history.proofs.Replays.{replay-push}
 use Rattle.call_history.proofs.book.Book.run_metered.Goals as goal
+
+pub step_with-requires-clause-may_change : goal.step_with-requires-clause-may_change
+step_with-requires-clause-may_change g c κs within = book_may_change c.self.inside.memory c.self.inside.entries.items c.self.invariant.replayed
 
 pub invariant_of-self-2 : goal.invariant_of-self-2
 invariant_of-self-2 g c =
@@ -18,6 +25,7 @@ invariant_of-self-2 g c =
           ∙ ap (λ es. replay c.step_with.new.memory.room es) (sym items);
       ticketed = c.enter-place.ensures.ticketed;
       lawful_callers = c.enter-place.ensures.lawful_callers;
+      whole = subst Whole (sym items) (Whole-push history added c.self.invariant.whole refl);
       counted = c.enter-place.ensures.counted;
     }
 

@@ -1,4 +1,4 @@
-use Rattle.std.proofs.Common.{List, map, ap, ◌∙◌}
+use Rattle.std.proofs.Common.{map, ap, ◌∙◌}
 use Rattle.vector_memory.specs.Contents.{Ints}
 use Rattle.cvl_calls.specs.Outcomes.{Stores}
 use Rattle.cvl_calls.proofs.joining.group.ints.Goals as goal

@@ -11,6 +11,7 @@ give-requires c = record {
   before = c.args.memory.now;
   taken = c.take-xs.result.items;
   lawful = c.memories_are_lawful.ensures;
+  outside = c.requires.outside;
   there = c.take-xs.ensures.items;
   left = c.take-xs.ensures.memory;
   enough = omega (arith, c.changed-made.ensures.long);
@@ -26,4 +27,4 @@ returns-clause-step c = λ xs is.
     let long : length result ≡ length xs = as_long_as_one c.args.change xs in
     let few : length result ≤ length xs = omega arith in
     let accepted = fits_in_place m c.args.to (Ints xs) (Ints result) c.memories_are_lawful.ensures is few in
-    applied_over m c.take-xs.new.memory c.give.new.memory c.args.to (Ints []) (Ints result) (Ints c.changed-made.result.items) accepted c.take-xs.ensures.memory c.give.ensures same
+    applied_over m c.take-xs.new.memory c.give.new.memory c.args.to (Ints []) (Ints result) (Ints c.changed-made.result.items) c.requires.outside accepted c.take-xs.ensures.memory c.give.ensures same

@@ -39,6 +39,7 @@ give-requires c = record {
   before = c.args.memory.now;
   taken = c.take-xs.result.items;
   lawful = c.memories_are_lawful.ensures;
+  outside = c.requires.outside;
   there = c.take-xs.ensures.items;
   left = c.take-xs.ensures.memory;
   enough = rw c.over_first-made.ensures.items (length-item_by_item (apply_z c.args.op) c.take-xs.result.items c.in-Some.ys.now);
@@ -64,4 +65,4 @@ returns-clause-step c =
     let few = length-item_by_item op can.left can.right in
     let accepted = fits_in_place m c.args.to (Ints can.left) (Ints result) c.memories_are_lawful.ensures can.left_is few in
     ap (followed m (Some c.args.to)) (applies m c.args.op c.args.to c.args.b.now can)
-    ∙ applied_over m held c.give.new.memory c.args.to (Ints []) (Ints result) (Ints c.over_first-made.result.items) accepted c.take-xs.ensures.memory c.give.ensures same
+    ∙ applied_over m held c.give.new.memory c.args.to (Ints []) (Ints result) (Ints c.over_first-made.result.items) c.requires.outside accepted c.take-xs.ensures.memory c.give.ensures same

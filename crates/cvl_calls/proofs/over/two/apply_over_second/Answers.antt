@@ -37,6 +37,7 @@ give-requires c = record {
   before = c.args.memory.now;
   taken = c.take-ys.result.items;
   lawful = c.memories_are_lawful.ensures;
+  outside = c.requires.outside;
   there = c.take-ys.ensures.items;
   left = c.take-ys.ensures.memory;
   enough = omega (arith, c.over_second-made.ensures.long);
@@ -63,4 +64,4 @@ returns-clause-step c =
     let few : length result ≤ length can.right = omega (arith, can.same) in
     let accepted = fits_in_place m c.args.to (Ints can.right) (Ints result) c.memories_are_lawful.ensures can.right_is few in
     ap (followed m (Some c.args.to)) (applies m c.args.op c.args.a.now c.args.to can)
-    ∙ applied_over m held c.give.new.memory c.args.to (Ints []) (Ints result) (Ints c.over_second-made.result.items) accepted c.take-ys.ensures.memory c.give.ensures same
+    ∙ applied_over m held c.give.new.memory c.args.to (Ints []) (Ints result) (Ints c.over_second-made.result.items) c.requires.outside accepted c.take-ys.ensures.memory c.give.ensures same

@@ -1,5 +1,6 @@
 use Rattle.std.proofs.Common.{◌≡◌, ℕ, Some, ◌∙◌, sym, ap, subst, length}
 use Rattle.atomic_table.specs.Table.{Allows, step}
+use Rattle.call_history.specs.Blocks.{Whole}
 use Rattle.request_slots.specs.Stages.{length_word}
 use Rattle.request_slots.specs.declared.known.Known.{Known}
 use mathlib.Core.Option.{none}
@@ -23,5 +24,6 @@ store-requires g c = let seated = c.seat.invariant in
           (enters_line c.self.inside.table.shared.key c.self.inside.table.shared.table_id.slots c.seat.inside.seat.id c.seat.inside.seat.me g.B.Batch.line seated.is_caller
           (subst (λ (k : Known). IsIdle k.standing) (sym known) c.requires.idle)
           (subst (λ (k : Known). k.pass ≡ Some (fresh_pass (pass_in k).line)) (sym known) c.requires.fresh)
-          (subst (λ (k : Known). IsEntered k.standing.number (pass_in k).line g.B.Batch.line) (sym known) c.requires.entered)),
+          (subst (λ (k : Known). IsEntered k.standing.number (pass_in k).line g.B.Batch.line) (sym known) c.requires.entered)
+          (subst Whole c.requires.line c.len-length.ensures.whole)),
     )

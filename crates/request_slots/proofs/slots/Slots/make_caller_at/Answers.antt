@@ -43,5 +43,5 @@ invariant_of-result g c =
       inside = subst (λ (z : Machine). c.args.number + 1 < z.slots) place c.requires.size.0;
       few = subst (λ (z : Machine). z.slots ≤ 65) place c.requires.size.1;
       orderly = subst (λ (v : View). IsOrderly (pass_in (known_of v))) (sym is) (λ _ _. refl);
-      front = subst (λ (v : View). FrontHolds (callers_of c.store.new.seat.table_id) (known_of v).standing) (sym is) ((λ _. (refl, refl)), λ _ _. refl);
+      front = subst (λ (v : View). FrontHolds (callers_of c.store.new.seat.table_id) (known_of v).standing) (sym is) ((λ _. (refl, refl)), (λ _ _. refl), tt);
     }

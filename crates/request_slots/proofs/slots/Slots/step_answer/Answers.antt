@@ -41,7 +41,7 @@ store-requires c = let seated = c.seat.invariant in
     let desk : HasDesk (known_of c.seat.inside.seat.me.0) = subst HasDesk (sym known) c.requires.desk in
     let slots : c.args.self.now.slots ≡ c.self.inside.table.shared.table_id.slots = ap (λ (z : TableId). z.slots) (sym c.self.view_is) in
     let near = c.requires.caller in
-    let asks = some_request _ c.requires.taken in
+    let asks = some_request (request_by c.args.i (pass_in c.args.seat.now).taken) c.requires.taken in
     let before : Sat = (c.seat.inside.seat.me.0, turned_times (1 + c.slots_below-before.result) c.seat.inside.seat.me.1) in
     let put = rw c.slot_at.ensures at c.exchange.ensures.3 in let put = put ∙ ap (λ (m : Sat). let z : Sat = (m.0, (c.args.i + 1, Told c.args.outcome) ∷ rest m.1) in z) c.turn_times.ensures.hand in rw c.word_at.ensures (
       c.exchange.ensures.0 ∙ (c.turn_times.ensures.place.0 ∙ same),

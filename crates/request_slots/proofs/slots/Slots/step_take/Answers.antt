@@ -2,6 +2,7 @@ use Rattle.std.proofs.Common.{rules, ◌≡◌, ℕ, ◌+◌, ◌∷◌, ◌∙�
 use Rattle.std.specs.Prelude.{is_some}
 use Rattle.atomic_table.specs.Seated.{TableId}
 use Rattle.atomic_table.specs.Table.{rest}
+use Rattle.call_history.specs.Fits.{IsLawfulJob}
 use Rattle.request_slots.specs.declared.desk.Slot.TheVariants.{Nothing, Asked}
 use Rattle.request_slots.specs.declared.known.Known.{Known}
 use Rattle.request_slots.specs.declared.known.View.{View}
@@ -9,6 +10,7 @@ use Rattle.request_slots.specs.declared.known.View.TheVariants.{Caller}
 use Rattle.request_slots.specs.Passes.{is_in, takes_on, tries}
 use Rattle.request_slots.specs.Views.{known_of, pass_in, HasDesk, passing}
 use Rattle.request_slots.specs.Seating.{Hand, own_hand, turned_times}
+use Rattle.request_slots.specs.Events.{job_in}
 use Rattle.request_slots.proofs.Taking.{takes_request}
 use Rattle.request_slots.proofs.RequestLists.{orderly_tries, orderly_takes, marks_take}
 use Rattle.request_slots.proofs.Hands.{front_is, front_slot, hand_opens, hand_closes_again, hand_takes}
@@ -92,3 +94,8 @@ invariant_of-seat-2 c = let seated = c.seat.invariant in
 pub returns-clause-place : goal.returns-clause-place
 returns-clause-place c = (invariant_of-seat-2 c).machine_is
     ∙ (c.turn_times-2.ensures.place.0 ∙ (c.exchange.ensures.0 ∙ (c.compare_exchange.ensures.0 ∙ (c.turn_times.ensures.place.0 ∙ (sits_at c.seat.invariant c.seat.view_is c.requires.place c.self.view_is ∙ c.self.view_is)))))
+
+pub returns-clause-lawful : goal.returns-clause-lawful
+returns-clause-lawful c =
+    let t = (c.compare_exchange.ensures.2 c.args.i c.word_at.ensures).0 c.if-compare_exchange-ne-POSTED.false in
+    subst IsLawfulJob (sym (ap job_in (sym c.in-Asked.is ∙ (sym (ap front_slot c.exchange.ensures.2) ∙ ap front_slot t.2)))) t.3
