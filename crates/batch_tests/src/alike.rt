@@ -6,27 +6,27 @@ use crate::table::{ALONE, CALLS, OPERANDS, write_call};
 use batch_flatten::Ran;
 use std::alloc::Global;
 use std::process::Abort;
-use std::test::Fail;
 use vector_memory::ROOM_LIMIT;
 
 /// The operands, and a value for every second target, so that some targets are new and others stand.
-fn before(alloc: Global) -> Result<String, Fail> {
-    let mut lines = OPERANDS.to_string(alloc)?;
+fn before(rt: &impl Abort, alloc: Global) -> String {
+    let mut lines = OPERANDS.to_string(alloc).expect(rt, "memory");
     for pair in 0..32_u64 {
         let number = 2 * pair;
-        lines.push_str(&format!(in alloc; "x{number} = z 1 2 3\n")?)?;
+        let line = format!(in alloc; "x{number} = z 1 2 3\n").expect(rt, "memory");
+        lines.push_str(&line).expect(rt, "memory");
     }
-    Ok(lines)
+    lines
 }
 
 /// A call of the table by so many callers, on these sets of operands in turn.
-fn alike(alloc: Global, call: &str, callers: usize, sets: &[char; 4]) -> Result<String, Fail> {
+fn alike(rt: &impl Abort, alloc: Global, call: &str, callers: usize, sets: &[char; 4]) -> String {
     let mut lines = String::new(alloc);
     for caller in 0..callers {
-        let target = format!(in alloc; "x{caller}")?;
-        write_call(&mut lines, call, &target, sets[caller % 4])?;
+        let target = format!(in alloc; "x{caller}").expect(rt, "memory");
+        write_call(rt, &mut lines, call, &target, sets[caller % 4]);
     }
-    Ok(lines)
+    lines
 }
 
 /// Asserts of a call of the table that so many callers of it are served in one wave, by so many kernel runs, and that they come
@@ -39,59 +39,53 @@ fn joins(
     kernels: u64,
     callers: usize,
     sets: &[char; 4],
-) -> Result<(), Fail> {
-    let mut one = book_of(alloc, ROOM_LIMIT, before)?;
-    let mut other = book_of(alloc, ROOM_LIMIT, before)?;
-    let lines = alike(alloc, call, callers, sets)?;
-    let ran = come_to_the_same(rt, alloc, &mut one, &mut other, &lines)?;
+) {
+    let mut one = book_of(rt, alloc, ROOM_LIMIT, before);
+    let mut other = book_of(rt, alloc, ROOM_LIMIT, before);
+    let lines = alike(rt, alloc, call, callers, sets);
+    let ran = come_to_the_same(rt, alloc, &mut one, &mut other, &lines);
     let wanted = Ran {
         waves: 1,
         kernels,
         singles: 0,
     };
     assert!(rt; ran == wanted, "{call}");
-    Ok(())
 }
 
 /// Asserts of each call of the table that so many callers of it join, where it runs a kernel.
-fn all_join(rt: &impl Abort, alloc: Global, callers: usize, sets: &[char; 4]) -> Result<(), Fail> {
-    let before = before(alloc)?;
+fn all_join(rt: &impl Abort, alloc: Global, callers: usize, sets: &[char; 4]) {
+    let before = before(rt, alloc);
     for (place, call) in CALLS.iter().enumerate() {
         let kernels = u64::from(place >= ALONE);
-        joins(rt, alloc, &before, call, kernels, callers, sets)?;
+        joins(rt, alloc, &before, call, kernels, callers, sets);
     }
-    Ok(())
 }
 
 #[test]
-fn with_items(rt: HostRuntime) -> Result<(), Fail> {
+fn with_items(rt: HostRuntime) {
     for callers in [2, 3, 64] {
-        all_join(&rt, rt.alloc(), callers, &['0', '0', '0', '0'])?;
+        all_join(&rt, rt.alloc(), callers, &['0', '0', '0', '0']);
     }
-    Ok(())
 }
 
 #[test]
-fn with_no_items(rt: HostRuntime) -> Result<(), Fail> {
+fn with_no_items(rt: HostRuntime) {
     for callers in [2, 3, 64] {
-        all_join(&rt, rt.alloc(), callers, &['1', '1', '1', '1'])?;
+        all_join(&rt, rt.alloc(), callers, &['1', '1', '1', '1']);
     }
-    Ok(())
 }
 
 #[test]
-fn with_empty_segments(rt: HostRuntime) -> Result<(), Fail> {
+fn with_empty_segments(rt: HostRuntime) {
     for callers in [2, 3, 64] {
-        all_join(&rt, rt.alloc(), callers, &['2', '2', '2', '2'])?;
+        all_join(&rt, rt.alloc(), callers, &['2', '2', '2', '2']);
     }
-    Ok(())
 }
 
 #[test]
-fn with_operands_of_several_lengths(rt: HostRuntime) -> Result<(), Fail> {
+fn with_operands_of_several_lengths(rt: HostRuntime) {
     for callers in [2, 3, 64] {
-        all_join(&rt, rt.alloc(), callers, &['0', '3', '1', '2'])?;
-        all_join(&rt, rt.alloc(), callers, &['1', '3', '2', '0'])?;
+        all_join(&rt, rt.alloc(), callers, &['0', '3', '1', '2']);
+        all_join(&rt, rt.alloc(), callers, &['1', '3', '2', '0']);
     }
-    Ok(())
 }

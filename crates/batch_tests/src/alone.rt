@@ -7,22 +7,22 @@ use cvl_text::{Call, Reply, Word, call_word};
 use scan_kernels::{Meter, Sequential};
 use std::alloc::Global;
 use std::process::Abort;
-use std::test::Fail;
 
 /// The text of a reply.
-fn text_of(alloc: Global, reply: &Reply) -> Result<Vec<u8>, Fail> {
+fn text_of(rt: &impl Abort, alloc: Global, reply: &Reply) -> Vec<u8> {
     let mut text = Vec::new(alloc);
-    reply.write(&mut text)?;
-    Ok(text)
+    reply.write(&mut text).expect(rt, "memory");
+    text
 }
 
 /// Whether the outcome is an answer at this place in the history, whose reply has the same text as this one.
 fn is_answer(
+    rt: &impl Abort,
     alloc: Global,
     outcome: Option<&Outcome>,
     place: u64,
     reply: &Reply,
-) -> Result<bool, Fail> {
+) -> bool {
     let Some(
         Outcome::Answered {
             place: at,
@@ -30,28 +30,28 @@ fn is_answer(
         },
     ) = outcome
     else {
-        return Ok(false);
+        return false;
     };
-    let (said, wanted) = (text_of(alloc, said)?, text_of(alloc, reply)?);
-    Ok(*at == place && said.as_slice() == wanted.as_slice())
+    let (said, wanted) = (text_of(rt, alloc, said), text_of(rt, alloc, reply));
+    *at == place && said.as_slice() == wanted.as_slice()
 }
 
 /// Runs the call of a line by itself. Whether the outcome is its answer, and whether it ran a kernel.
 fn run_line(
+    rt: &impl Abort,
     alloc: Global,
     book: &mut Book,
     caller: u64,
     call: Call,
     outcome: Option<&Outcome>,
-) -> Result<(bool, bool), Fail> {
-    if caller >= CALLER_LIMIT as u64 {
-        return Err("no such caller")?;
-    }
+) -> (bool, bool) {
+    assert!(rt; caller < CALLER_LIMIT as u64, "no such caller");
     let mut meter = Meter::new();
     let Ok((place, reply)) = book.run_metered(&Sequential, alloc, &mut meter, caller, call) else {
-        return Err("out of memory")?;
+        panic!(rt; "out of memory");
     };
-    Ok((is_answer(alloc, outcome, place, &reply)?, meter.runs() > 0))
+    let same = is_answer(rt, alloc, outcome, place, &reply);
+    (same, meter.runs() > 0)
 }
 
 /// Words, each once.
@@ -68,11 +68,10 @@ impl Words {
     }
 
     /// Takes up the word, where it is a new one and this holds.
-    fn note(&mut self, word: Word, holds: bool) -> Result<(), Fail> {
+    fn note(&mut self, rt: &impl Abort, word: Word, holds: bool) {
         if holds && !self.words.contains(&word) {
-            self.words.push(word)?;
+            self.words.push(word).expect(rt, "memory");
         }
-        Ok(())
     }
 
     fn len(&self) -> u64 {
@@ -90,38 +89,32 @@ fn run_wave(
     planned: &[u8; BATCH_LIMIT],
     wave: u64,
     outcomes: &[Outcome],
-) -> Result<u64, Fail> {
+) -> u64 {
     let mut words = Words::new(alloc);
     for ((i, line), its) in lines.lines().enumerate().zip(planned.iter()) {
         if u64::from(*its) != wave {
             continue;
         }
-        let call = Call::read(alloc, line.as_bytes())?;
+        let call = Call::read(alloc, line.as_bytes()).expect(rt, "no call");
         let word = call_word(&call);
-        let (same, kernel) = run_line(alloc, book, i as u64, call, outcomes.get(i))?;
+        let (same, kernel) = run_line(rt, alloc, book, i as u64, call, outcomes.get(i));
         assert!(rt; same, "{line} in\n{lines}");
-        words.note(word, kernel)?;
+        words.note(rt, word, kernel);
     }
-    Ok(words.len())
+    words.len()
 }
 
 /// Runs the calls of a batch by themselves, wave after wave, and asserts that the outcomes are their answers. How many kernels
 /// the batch is to run.
-fn run_alone(
-    rt: &impl Abort,
-    alloc: Global,
-    book: &mut Book,
-    lines: &str,
-    served: &Served,
-) -> Result<u64, Fail> {
-    let requests = batch_of(alloc, lines)?;
+fn run_alone(rt: &impl Abort, alloc: Global, book: &mut Book, lines: &str, served: &Served) -> u64 {
+    let requests = batch_of(rt, alloc, lines);
     let planned = waves(&requests);
     let mut kernels: u64 = 0;
     for wave in 0..served.ran.waves {
-        let more = run_wave(rt, alloc, book, lines, &planned, wave, &served.outcomes)?;
+        let more = run_wave(rt, alloc, book, lines, &planned, wave, &served.outcomes);
         kernels = kernels.saturating_add(more);
     }
-    Ok(kernels)
+    kernels
 }
 
 /// Whether two histories have entries of the same callers, with the same tickets.
@@ -146,14 +139,15 @@ pub(crate) fn come_to_the_same(
     one: &mut Book,
     other: &mut Book,
     lines: &str,
-) -> Result<Ran, Fail> {
-    let served = serve(alloc, one, lines)?;
-    let kernels = run_alone(rt, alloc, other, lines, &served)?;
+) -> Ran {
+    let served = serve(rt, alloc, one, lines);
+    let kernels = run_alone(rt, alloc, other, lines, &served);
     assert!(rt; served.ran.singles == 0, "{lines}");
     assert!(rt; served.ran.kernels == kernels, "{lines}");
     assert!(rt; is_same_order(one, other), "{lines}");
-    let (left, wanted) = (memory_of(alloc, one)?, memory_of(alloc, other)?);
+    let (left, wanted) = (memory_of(rt, alloc, one), memory_of(rt, alloc, other));
     assert!(rt; left.as_slice() == wanted.as_slice(), "{lines}");
-    assert!(rt; one.audit(&Sequential, alloc)?, "{lines}");
-    Ok(served.ran)
+    let audited = one.audit(&Sequential, alloc).expect(rt, "memory");
+    assert!(rt; audited, "{lines}");
+    served.ran
 }

@@ -1,10 +1,9 @@
 //! Small batches whose waves, kernel runs, replies and memories were worked out by hand.
 
 use crate::case::{Case, comes_about};
-use std::test::Fail;
 
 #[test]
-fn joins_empty_operands_with_others(rt: HostRuntime) -> Result<(), Fail> {
+fn joins_empty_operands_with_others(rt: HostRuntime) {
     let case = Case {
         room: 1000,
         before: "e = z\na = z 1 2 3\nb = z 10 20 30",
@@ -18,7 +17,7 @@ fn joins_empty_operands_with_others(rt: HostRuntime) -> Result<(), Fail> {
 }
 
 #[test]
-fn a_later_reader_waits_for_the_target(rt: HostRuntime) -> Result<(), Fail> {
+fn a_later_reader_waits_for_the_target(rt: HostRuntime) {
     let case = Case {
         room: 1000,
         before: "a = z 5\nb = z 1",
@@ -32,7 +31,7 @@ fn a_later_reader_waits_for_the_target(rt: HostRuntime) -> Result<(), Fail> {
 }
 
 #[test]
-fn an_earlier_reader_sees_the_old_value(rt: HostRuntime) -> Result<(), Fail> {
+fn an_earlier_reader_sees_the_old_value(rt: HostRuntime) {
     let case = Case {
         room: 1000,
         before: "a = z 5\nb = z 1",
@@ -47,7 +46,7 @@ fn an_earlier_reader_sees_the_old_value(rt: HostRuntime) -> Result<(), Fail> {
 
 /// Where each call of a word has a fault there is nothing to run.
 #[test]
-fn faults_alone_run_no_kernel(rt: HostRuntime) -> Result<(), Fail> {
+fn faults_alone_run_no_kernel(rt: HostRuntime) {
     let case = Case {
         room: 1000,
         before: "a = z 1\nz = z 0",
@@ -61,7 +60,7 @@ fn faults_alone_run_no_kernel(rt: HostRuntime) -> Result<(), Fail> {
 }
 
 #[test]
-fn a_fault_stays_with_its_call(rt: HostRuntime) -> Result<(), Fail> {
+fn a_fault_stays_with_its_call(rt: HostRuntime) {
     let case = Case {
         room: 1000,
         before: "p = z 6\nq = z 2\nr = z 1\ns = z 0",
@@ -76,7 +75,7 @@ fn a_fault_stays_with_its_call(rt: HostRuntime) -> Result<(), Fail> {
 
 /// The third call reads nothing and joins the first wave, so it stands before the second in the history.
 #[test]
-fn the_order_is_that_of_the_waves(rt: HostRuntime) -> Result<(), Fail> {
+fn the_order_is_that_of_the_waves(rt: HostRuntime) {
     let case = Case {
         room: 1000,
         before: "",
@@ -90,7 +89,7 @@ fn the_order_is_that_of_the_waves(rt: HostRuntime) -> Result<(), Fail> {
 }
 
 #[test]
-fn segments_of_two_calls_stay_apart(rt: HostRuntime) -> Result<(), Fail> {
+fn segments_of_two_calls_stay_apart(rt: HostRuntime) {
     let case = Case {
         room: 1000,
         before: "a = z 1 2\nl = z 2\ns = mke_fov l\nb = z 3 4 5\nm = z 1 0 2\nt = mke_fov m",
@@ -104,7 +103,7 @@ fn segments_of_two_calls_stay_apart(rt: HostRuntime) -> Result<(), Fail> {
 }
 
 #[test]
-fn packs_each_call_by_itself(rt: HostRuntime) -> Result<(), Fail> {
+fn packs_each_call_by_itself(rt: HostRuntime) {
     let case = Case {
         room: 1000,
         before: "a = z 5 6\nf = b T F\ng = b F F",
@@ -118,7 +117,7 @@ fn packs_each_call_by_itself(rt: HostRuntime) -> Result<(), Fail> {
 }
 
 #[test]
-fn joins_calls_of_numbers_alone(rt: HostRuntime) -> Result<(), Fail> {
+fn joins_calls_of_numbers_alone(rt: HostRuntime) {
     let case = Case {
         room: 1000,
         before: "",
@@ -132,7 +131,7 @@ fn joins_calls_of_numbers_alone(rt: HostRuntime) -> Result<(), Fail> {
 }
 
 #[test]
-fn two_words_run_two_kernels(rt: HostRuntime) -> Result<(), Fail> {
+fn two_words_run_two_kernels(rt: HostRuntime) {
     let case = Case {
         room: 1000,
         before: "a = z 2",
@@ -146,7 +145,7 @@ fn two_words_run_two_kernels(rt: HostRuntime) -> Result<(), Fail> {
 }
 
 #[test]
-fn the_second_of_two_finds_no_room(rt: HostRuntime) -> Result<(), Fail> {
+fn the_second_of_two_finds_no_room(rt: HostRuntime) {
     let case = Case {
         room: 4,
         before: "a = z 1 2",
@@ -161,7 +160,7 @@ fn the_second_of_two_finds_no_room(rt: HostRuntime) -> Result<(), Fail> {
 
 /// What is freed is a target too.
 #[test]
-fn frees_between_two_readers(rt: HostRuntime) -> Result<(), Fail> {
+fn frees_between_two_readers(rt: HostRuntime) {
     let case = Case {
         room: 1000,
         before: "a = z 1",
@@ -175,7 +174,7 @@ fn frees_between_two_readers(rt: HostRuntime) -> Result<(), Fail> {
 }
 
 #[test]
-fn serves_no_call_at_all(rt: HostRuntime) -> Result<(), Fail> {
+fn serves_no_call_at_all(rt: HostRuntime) {
     let case = Case {
         room: 1000,
         before: "a = z 1",

@@ -5,7 +5,6 @@ use batch_flatten::Ran;
 use scan_kernels::Sequential;
 use std::alloc::Global;
 use std::process::Abort;
-use std::test::Fail;
 
 /// What was worked out by hand of a batch.
 #[derive(Clone, Copy)]
@@ -26,9 +25,9 @@ pub(crate) struct Case<'a> {
 }
 
 /// Serves the batch, and asserts what is wanted of it.
-pub(crate) fn comes_about(rt: &impl Abort, alloc: Global, case: &Case) -> Result<(), Fail> {
-    let mut book = book_of(alloc, case.room, case.before)?;
-    let served = serve(alloc, &mut book, case.calls)?;
+pub(crate) fn comes_about(rt: &impl Abort, alloc: Global, case: &Case) {
+    let mut book = book_of(rt, alloc, case.room, case.before);
+    let served = serve(rt, alloc, &mut book, case.calls);
     let wanted = Ran {
         waves: case.waves,
         kernels: case.kernels,
@@ -36,10 +35,10 @@ pub(crate) fn comes_about(rt: &impl Abort, alloc: Global, case: &Case) -> Result
     };
     let calls = case.calls;
     assert!(rt; served.ran == wanted, "{calls}");
-    let answers = answers_of(alloc, &served.outcomes)?;
+    let answers = answers_of(rt, alloc, &served.outcomes);
     assert!(rt; answers.as_slice() == case.answers.as_bytes(), "{calls}");
-    let after = memory_of(alloc, &book)?;
+    let after = memory_of(rt, alloc, &book);
     assert!(rt; after.as_slice() == case.after.as_bytes(), "{calls}");
-    assert!(rt; book.audit(&Sequential, alloc)?, "{calls}");
-    Ok(())
+    let audited = book.audit(&Sequential, alloc).expect(rt, "memory");
+    assert!(rt; audited, "{calls}");
 }

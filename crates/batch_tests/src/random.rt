@@ -7,7 +7,6 @@ use crate::table::{CALLS, OPERANDS, write_call};
 use batch_flatten::BATCH_LIMIT;
 use std::alloc::Global;
 use std::process::Abort;
-use std::test::Fail;
 
 /// Which batches chance may make.
 #[derive(Clone, Copy)]
@@ -28,15 +27,10 @@ const TARGETS: [&str; 16] = [
 ];
 
 /// A call of a row of the table, behind these.
-fn write_one(
-    lines: &mut String,
-    numbers: &mut Numbers,
-    row: u64,
-    targets: u64,
-) -> Result<(), Fail> {
-    let call = CALLS.get((row % 97) as usize).ok_or("no row")?;
+fn write_one(rt: &impl Abort, lines: &mut String, numbers: &mut Numbers, row: u64, targets: u64) {
+    let call = CALLS.get((row % 97) as usize).expect(rt, "no row");
     let target = numbers.below(targets.min(16)) as usize;
-    let target = TARGETS.get(target).ok_or("no target")?;
+    let target = TARGETS.get(target).expect(rt, "no target");
     let set = match numbers.below(8) {
         0 => '1',
         1 => '2',
@@ -44,48 +38,41 @@ fn write_one(
         3 => '3',
         _ => '0',
     };
-    write_call(lines, call, target, set)
+    write_call(rt, lines, call, target, set);
 }
 
 /// A batch of the shape.
-fn batch(alloc: Global, numbers: &mut Numbers, shape: &Shape) -> Result<String, Fail> {
+fn batch(rt: &impl Abort, alloc: Global, numbers: &mut Numbers, shape: &Shape) -> String {
     let mut lines = String::new(alloc);
     let first = numbers.below(97);
     let more = numbers.below(shape.calls.min(BATCH_LIMIT as u64));
     for _ in 0..more.saturating_add(1) {
         let row = first.saturating_add(numbers.below(shape.words));
-        write_one(&mut lines, numbers, row, shape.targets)?;
+        write_one(rt, &mut lines, numbers, row, shape.targets);
     }
-    Ok(lines)
+    lines
 }
 
 /// Serves batches of the shape one after the other on one pair of books.
-fn serve_some(
-    rt: &impl Abort,
-    alloc: Global,
-    numbers: &mut Numbers,
-    shape: &Shape,
-) -> Result<(), Fail> {
-    let mut one = book_of(alloc, shape.room, OPERANDS)?;
-    let mut other = book_of(alloc, shape.room, OPERANDS)?;
+fn serve_some(rt: &impl Abort, alloc: Global, numbers: &mut Numbers, shape: &Shape) {
+    let mut one = book_of(rt, alloc, shape.room, OPERANDS);
+    let mut other = book_of(rt, alloc, shape.room, OPERANDS);
     for _ in 0..4 {
-        let lines = batch(alloc, numbers, shape)?;
-        come_to_the_same(rt, alloc, &mut one, &mut other, &lines)?;
+        let lines = batch(rt, alloc, numbers, shape);
+        come_to_the_same(rt, alloc, &mut one, &mut other, &lines);
     }
-    Ok(())
 }
 
 /// Asserts that batches of the shape come to the same as their calls one by one.
-fn all_come_to_the_same(rt: &impl Abort, alloc: Global, shape: &Shape) -> Result<(), Fail> {
+fn all_come_to_the_same(rt: &impl Abort, alloc: Global, shape: &Shape) {
     let mut numbers = Numbers::new(shape.seed);
     for _ in 0..50 {
-        serve_some(rt, alloc, &mut numbers, shape)?;
+        serve_some(rt, alloc, &mut numbers, shape);
     }
-    Ok(())
 }
 
 #[test]
-fn of_all_words(rt: HostRuntime) -> Result<(), Fail> {
+fn of_all_words(rt: HostRuntime) {
     let shape = Shape {
         seed: 1,
         words: 97,
@@ -97,7 +84,7 @@ fn of_all_words(rt: HostRuntime) -> Result<(), Fail> {
 }
 
 #[test]
-fn of_one_word(rt: HostRuntime) -> Result<(), Fail> {
+fn of_one_word(rt: HostRuntime) {
     let shape = Shape {
         seed: 2,
         words: 1,
@@ -110,7 +97,7 @@ fn of_one_word(rt: HostRuntime) -> Result<(), Fail> {
 
 /// Almost every call reads what an earlier one writes.
 #[test]
-fn of_three_words_on_two_names(rt: HostRuntime) -> Result<(), Fail> {
+fn of_three_words_on_two_names(rt: HostRuntime) {
     let shape = Shape {
         seed: 3,
         words: 3,
@@ -122,7 +109,7 @@ fn of_three_words_on_two_names(rt: HostRuntime) -> Result<(), Fail> {
 }
 
 #[test]
-fn of_few_calls(rt: HostRuntime) -> Result<(), Fail> {
+fn of_few_calls(rt: HostRuntime) {
     let shape = Shape {
         seed: 4,
         words: 5,
@@ -135,7 +122,7 @@ fn of_few_calls(rt: HostRuntime) -> Result<(), Fail> {
 
 /// The operands have 101 items, so many calls find no room.
 #[test]
-fn in_a_small_room(rt: HostRuntime) -> Result<(), Fail> {
+fn in_a_small_room(rt: HostRuntime) {
     let shape = Shape {
         seed: 5,
         words: 20,

@@ -4,7 +4,7 @@
 //! Contracts say what came of the calls that were answered. What no contract can say is asked here: that a refused growth of a
 //! group has its calls run by themselves, and that any other comes to one call alone.
 
-ghost use Rattle.std.specs.Prelude.{◌≡◌, ◌≤◌, [], IfOk, length, map, vec_capacity, vec_len};
+ghost use Rattle.std.specs.Prelude.{◌≡◌, ◌≤◌, [], length, map, vec_capacity, vec_len};
 ghost use Rattle.std.specs.List.{AllByRecursion, range_with_len};
 ghost use Rattle.call_history.specs.Fits.{IsLawfulJob};
 ghost use Rattle.batch_flatten.specs.Serving.{caller_of};
@@ -15,19 +15,18 @@ use call_history::{Outcome, Request};
 use scan_kernels::{Meter, Sequential};
 use std::alloc::Global;
 use std::process::Abort;
-use std::test::Fail;
 
 /// The requests for the calls of these lines, and space for what becomes of them.
-fn asked(alloc: Global, calls: &str) -> Result<(Vec<Request>, Vec<Outcome>), Fail>
-    ensures few { IfOk result (λ made. vec_len made.0 ≤ BATCH_LIMIT) }
-    ensures callers { IfOk result (λ made. map caller_of made.0.items ≡ range_with_len 0 (length made.0.items)) }
-    ensures jobs { IfOk result (λ made. AllByRecursion (λ r. IsLawfulJob r.job) made.0.items) }
-    ensures empty { IfOk result (λ made. made.1.items ≡ []) }
-    ensures spaces { IfOk result (λ made. BATCH_LIMIT ≤ vec_capacity made.1) }
+fn asked(rt: &impl Abort, alloc: Global, calls: &str) -> (Vec<Request>, Vec<Outcome>)
+    ensures few { vec_len result.0 ≤ BATCH_LIMIT }
+    ensures callers { map caller_of result.0.items ≡ range_with_len 0 (length result.0.items) }
+    ensures jobs { AllByRecursion (λ r. IsLawfulJob r.job) result.0.items }
+    ensures empty { result.1.items ≡ [] }
+    ensures spaces { BATCH_LIMIT ≤ vec_capacity result.1 }
 {
-    let outcomes = Vec::with_capacity(alloc, BATCH_LIMIT)?;
-    let requests = batch_of(alloc, calls)?;
-    Ok((requests, outcomes))
+    let outcomes = Vec::with_capacity(alloc, BATCH_LIMIT).expect(rt, "memory");
+    let requests = batch_of(rt, alloc, calls);
+    (requests, outcomes)
 }
 
 /// How many calls came back.
@@ -40,13 +39,9 @@ fn count_back(outcomes: &[Outcome]) -> usize {
 
 /// Serves the calls of these lines as one batch behind these. Asserts that at most one of them comes back, or all do and
 /// nothing has changed, and prints how they were served. It leaves at its end alone, where all that it holds is dropped once.
-fn serves_the_others<R: Abort + Alloc<A = Global> + Print>(
-    rt: &R,
-    before: &str,
-    calls: &str,
-) -> Result<(), Fail> {
-    let (mut requests, mut outcomes) = asked(rt.alloc(), calls)?;
-    let mut book = book_of(rt.alloc(), 1000, before)?;
+fn serves_the_others<R: Abort + Alloc<A = Global> + Print>(rt: &R, before: &str, calls: &str) {
+    let (mut requests, mut outcomes) = asked(rt, rt.alloc(), calls);
+    let mut book = book_of(rt, rt.alloc(), 1000, before);
     let length = book.len();
     let begun = println!(rt; "begin");
     let ran = run_batch(
@@ -70,11 +65,10 @@ fn serves_the_others<R: Abort + Alloc<A = Global> + Print>(
     } = ran;
     let said = println!(rt; "{waves} waves, {kernels} kernels, {singles} singles, {back} back");
     assert!(rt; said.is_ok());
-    Ok(())
 }
 
 #[test]
-fn joins_with_an_empty_vector(rt: HostRuntime) -> Result<(), Fail> {
+fn joins_with_an_empty_vector(rt: HostRuntime) {
     serves_the_others(
         &rt,
         "e = z\na = z 1 2 3\nb = z 10 20 30",
@@ -83,17 +77,17 @@ fn joins_with_an_empty_vector(rt: HostRuntime) -> Result<(), Fail> {
 }
 
 #[test]
-fn reads_what_the_wave_writes(rt: HostRuntime) -> Result<(), Fail> {
+fn reads_what_the_wave_writes(rt: HostRuntime) {
     serves_the_others(&rt, "a = z 5\nb = z 1", "b = add_wuz a a\nget b")
 }
 
 #[test]
-fn reads_before_the_wave_writes(rt: HostRuntime) -> Result<(), Fail> {
+fn reads_before_the_wave_writes(rt: HostRuntime) {
     serves_the_others(&rt, "a = z 5\nb = z 1", "get b\nb = add_wuz a a")
 }
 
 #[test]
-fn divides_by_zero_in_a_group(rt: HostRuntime) -> Result<(), Fail> {
+fn divides_by_zero_in_a_group(rt: HostRuntime) {
     serves_the_others(
         &rt,
         "p = z 6\nq = z 2\nr = z 1\ns = z 0",
@@ -102,6 +96,6 @@ fn divides_by_zero_in_a_group(rt: HostRuntime) -> Result<(), Fail> {
 }
 
 #[test]
-fn three_callers_on_one_name(rt: HostRuntime) -> Result<(), Fail> {
+fn three_callers_on_one_name(rt: HostRuntime) {
     serves_the_others(&rt, "a = z 1", "b = z 1\nc = cpy_wuz b\nb = z 2")
 }

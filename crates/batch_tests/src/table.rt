@@ -3,7 +3,7 @@
 use cvl_calls::runs_kernel;
 use cvl_text::{Call, Word, call_word};
 use std::alloc::Global;
-use std::test::Fail;
+use std::process::Abort;
 
 /// How many of the calls run no kernel: the first ones.
 pub(crate) const ALONE: usize = 9;
@@ -171,43 +171,36 @@ pub(crate) const OPERANDS: &str = "a0 = z 7 -7 9 2\n\
     t3 = mke_fov n3\n";
 
 /// Writes a call of the table behind the text, on a set of operands.
-pub(crate) fn write_call(
-    text: &mut String,
-    call: &str,
-    target: &str,
-    set: char,
-) -> Result<(), Fail> {
+pub(crate) fn write_call(rt: &impl Abort, text: &mut String, call: &str, target: &str, set: char) {
     for c in call.chars() {
         match c {
-            '@' => text.push_str(target)?,
-            '?' => text.push(set)?,
-            other => text.push(other)?,
+            '@' => text.push_str(target).expect(rt, "memory"),
+            '?' => text.push(set).expect(rt, "memory"),
+            other => text.push(other).expect(rt, "memory"),
         }
     }
-    text.push('\n')?;
-    Ok(())
+    text.push('\n').expect(rt, "memory");
 }
 
 /// The call words of the table, and whether each runs a kernel.
-fn words(alloc: Global) -> Result<Vec<(Word, bool)>, Fail> {
+fn words(rt: &impl Abort, alloc: Global) -> Vec<(Word, bool)> {
     let mut found = Vec::new(alloc);
     for call in &CALLS {
         let mut line = String::new(alloc);
-        write_call(&mut line, call, "x", '0')?;
-        let call = Call::read(alloc, line.trim_end().as_bytes())?;
+        write_call(rt, &mut line, call, "x", '0');
+        let call = Call::read(alloc, line.trim_end().as_bytes()).expect(rt, "no call");
         let word = call_word(&call);
-        found.push((word, runs_kernel(word)))?;
+        found.push((word, runs_kernel(word))).expect(rt, "memory");
     }
-    Ok(found)
+    found
 }
 
 #[test]
-fn has_every_word_once(rt: HostRuntime) -> Result<(), Fail> {
-    let words = words(rt.alloc())?;
+fn has_every_word_once(rt: HostRuntime) {
+    let words = words(&rt, rt.alloc());
     for (i, word) in words.iter().enumerate() {
         assert!(rt; words.iter().take(i).all(|other| other.0 != word.0));
     }
     assert!(rt; words.len() == 97);
     assert!(rt; words.iter().filter(|word| word.1).count() == 88);
-    Ok(())
 }
