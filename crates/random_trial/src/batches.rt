@@ -7,7 +7,7 @@ ghost use Rattle.batch_flatten.specs.Serving.{caller_of};
 
 use crate::alone::{book_of, run_lines};
 use crate::chance::Chance;
-use crate::replay::{Told, is_told_right};
+use crate::replay::{Told, is_told_right, note};
 use crate::script::Script;
 use crate::texts::line_text;
 use batch_flatten::{BATCH_LIMIT, Job, Outcome, Request, run_batch};
@@ -35,6 +35,37 @@ fn batch_of(alloc: Global, lines: &[&str]) -> Option<Vec<Request>>
     Some(requests)
 }
 
+/// Notes what a caller was told of the call of a line. Whether it was answered.
+fn note_outcome(
+    alloc: Global,
+    told: &mut Vec<Told>,
+    caller: u64,
+    line: &str,
+    outcome: &Outcome,
+) -> Option<bool> {
+    let Outcome::Answered { place, reply } = outcome else {
+        return Some(false);
+    };
+    let call = line_text(alloc, line)?;
+    note(alloc, told, caller, call, *place, reply)?;
+    Some(true)
+}
+
+/// Notes what came of a batch of these lines. Whether none came back.
+fn note_outcomes(
+    alloc: Global,
+    told: &mut Vec<Told>,
+    lines: &[&str],
+    outcomes: &[Outcome],
+) -> Option<bool> {
+    for (i, (outcome, line)) in outcomes.iter().zip(lines.iter()).enumerate() {
+        if !note_outcome(alloc, told, i as u64, line, outcome)? {
+            return Some(false);
+        }
+    }
+    Some(true)
+}
+
 /// Serves the calls of these lines as one batch, and notes what is told. Whether none came back.
 fn serve(alloc: Global, book: &mut Book, lines: &[&str], told: &mut Vec<Told>) -> Option<bool> {
     let mut requests = batch_of(alloc, lines)?;
@@ -47,26 +78,44 @@ fn serve(alloc: Global, book: &mut Book, lines: &[&str], told: &mut Vec<Told>) -
         &mut outcomes,
         &mut Meter::new(),
     );
-    for (i, (outcome, line)) in outcomes.iter().zip(lines.iter()).enumerate() {
-        let Outcome::Answered { place, reply } = outcome else {
-            return Some(false);
-        };
-        let call = line_text(alloc, line)?;
-        told.push(Told::new(alloc, i as u64, call, *place, reply)?)
-            .ok()?;
+    let answered = note_outcomes(alloc, told, lines, &outcomes)?;
+    Some(answered && ran.singles == 0)
+}
+
+/// Serves the calls of these lines in batches of a length that chance chooses, and notes what is told. Whether none came back.
+fn serve_all(
+    alloc: Global,
+    chance: &mut Chance,
+    book: &mut Book,
+    lines: &[&str],
+    told: &mut Vec<Told>,
+) -> Option<bool> {
+    let most = if chance.comes_once_in(2) { 64 } else { 6 };
+    let mut right = true;
+    for batch in lines.chunks((chance.below(most) as usize).saturating_add(1)) {
+        right &= serve(alloc, book, batch, told)?;
     }
-    Some(ran.singles == 0)
+    Some(right)
+}
+
+/// Whether what batches on this book, which is empty, tell is borne out by it.
+fn tells_right(
+    alloc: Global,
+    chance: &mut Chance,
+    opening: &str,
+    lines: &[&str],
+    book: &mut Book,
+    told: &mut Vec<Told>,
+) -> Option<bool> {
+    let opened = run_lines(alloc, book, opening, told)?;
+    let served = serve_all(alloc, chance, book, lines, told)?;
+    Some(opened && served && is_told_right(alloc, book, told)?)
 }
 
 /// Whether what batches tell is borne out by their book.
 pub(crate) fn is_right(alloc: Global, chance: &mut Chance, script: &Script) -> Option<bool> {
+    let lines: Vec<&str> = script.calls.lines().collect(alloc).ok()?;
     let mut book = book_of(alloc, script)?;
     let mut told = Vec::new(alloc);
-    let mut right = run_lines(alloc, &mut book, &script.opening, &mut told)?;
-    let lines: Vec<&str> = script.calls.lines().collect(alloc).ok()?;
-    let most = if chance.comes_once_in(2) { 64 } else { 6 };
-    for batch in lines.chunks((chance.below(most) as usize).saturating_add(1)) {
-        right &= serve(alloc, &mut book, batch, &mut told)?;
-    }
-    Some(right && is_told_right(alloc, &book, &told)?)
+    tells_right(alloc, chance, &script.opening, &lines, &mut book, &mut told)
 }

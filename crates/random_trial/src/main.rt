@@ -46,22 +46,32 @@ impl Found {
     }
 }
 
+/// Runs a script in each way: the first that differed, if one did. None where memory is refused.
+fn run_each_way<R: Threads + Wait + Sync>(
+    rt: &R,
+    alloc: Global,
+    chance: &mut Chance,
+    script: &Script,
+) -> Option<Option<Found>> {
+    if !alone::is_right(alloc, script)? {
+        return Some(Some(Found::Alone));
+    }
+    if !batches::is_right(alloc, chance, script)? {
+        return Some(Some(Found::Batches));
+    }
+    if !threads::is_right(rt, alloc, script)? {
+        return Some(Some(Found::Threads));
+    }
+    Some(None)
+}
+
 /// Runs the script of a seed in each way: the first that differed, if one did, and how many calls it has. None where memory is
 /// refused.
 fn run<R: Threads + Wait + Sync>(rt: &R, alloc: Global, seed: u64) -> Option<(Option<Found>, u64)> {
     let mut chance = Chance::new(seed);
     let script = Script::new(alloc, &mut chance)?;
-    let calls = script.len();
-    if !alone::is_right(alloc, &script)? {
-        return Some((Some(Found::Alone), calls));
-    }
-    if !batches::is_right(alloc, &mut chance, &script)? {
-        return Some((Some(Found::Batches), calls));
-    }
-    if !threads::is_right(rt, alloc, &script)? {
-        return Some((Some(Found::Threads), calls));
-    }
-    Some((None, calls))
+    let found = run_each_way(rt, alloc, &mut chance, &script)?;
+    Some((found, script.len()))
 }
 
 /// Runs so many scripts, from this seed on. Says what was found.

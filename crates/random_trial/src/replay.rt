@@ -1,9 +1,11 @@
 //! What was told of calls beside the replay of the history that they stand in.
 
-use crate::texts::{call_text, memory_text, text_of};
+ghost use Rattle.std.specs.Prelude.{◌≡◌, None};
+
+use crate::texts::{call_text, hold_the_same, text_of};
 use call_history::{Book, CALLER_LIMIT};
 use cvl_calls::step;
-use cvl_text::Reply;
+use cvl_text::{Call, Reply};
 use scan_kernels::Sequential;
 use std::alloc::Global;
 use vector_memory::Memory;
@@ -18,43 +20,97 @@ pub(crate) struct Told {
 }
 
 impl Told {
-    pub fn new(
-        alloc: Global,
-        caller: u64,
-        call: String,
-        place: u64,
-        reply: &Reply,
-    ) -> Option<Told> {
-        let reply = text_of(alloc, reply)?;
-        Some(Told {
-            caller,
-            call,
-            place,
-            reply,
-        })
-    }
-
     /// Whether another was told the same of the same call.
-    fn agrees(&self, other: &Told) -> bool {
+    pub fn agrees(&self, other: &Told) -> bool {
         self.caller == other.caller && self.call == other.call && self.reply == other.reply
     }
 }
 
-/// What is told of each place of a book's history, where a plain memory runs it call by call, and what that memory holds then.
-#[tactic(auto, using(cvl_calls::proofs::BlockSteps::outside_may_change, cvl_calls::proofs::BlockSteps::steps_outside))]
-fn replayed(alloc: Global, book: &Book) -> Option<(Vec<Told>, Vec<u8>)> {
-    let mut told = Vec::new(alloc);
-    let mut memory = Memory::new(alloc, book.room()).ok()?;
+/// Notes that a caller was told a reply of a call, whose text this is, and of its place.
+pub(crate) fn note(
+    alloc: Global,
+    told: &mut Vec<Told>,
+    caller: u64,
+    call: String,
+    place: u64,
+    reply: &Reply,
+) -> Option<()> {
+    let reply = text_of(alloc, reply)?;
+    let one = Told {
+        caller,
+        call,
+        place,
+        reply,
+    };
+    told.push(one).ok()
+}
+
+/// Runs a call on a plain memory, and notes what a caller is told of it.
+#[tactic(auto, using(cvl_calls::proofs::BlockSteps::outside_may_change))]
+pub(crate) fn replay_call(
+    alloc: Global,
+    memory: &mut Memory,
+    replay: &mut Vec<Told>,
+    caller: u64,
+    call: &Call,
+) -> Option<()>
+    requires { memory.old.block ≡ None }
+    ensures { memory.new.block ≡ None }
+{
+    let text = call_text(alloc, call)?;
+    let place = replay.len() as u64;
+    let Ok(reply) = step(&Sequential, alloc, memory, call) else {
+        return None;
+    };
+    note(alloc, replay, caller, text, place, &reply)
+}
+
+/// Runs a book's history call by call on a plain memory, and notes what is told of each place.
+fn replay_entries(
+    alloc: Global,
+    memory: &mut Memory,
+    replay: &mut Vec<Told>,
+    book: &Book,
+) -> Option<()>
+    requires { memory.old.block ≡ None }
+{
     for place in 0..book.len() {
         let entry = book.entry(place);
-        let Ok(reply) = step(&Sequential, alloc, &mut memory, &entry.call) else {
-            return None;
-        };
-        let call = call_text(alloc, &entry.call)?;
-        told.push(Told::new(alloc, entry.caller, call, place as u64, &reply)?)
-            .ok()?;
+        replay_call(alloc, memory, replay, entry.caller, &entry.call)?;
     }
-    Some((told, memory_text(alloc, &memory)?))
+    Some(())
+}
+
+/// Runs a book's history call by call, and notes what is told of each place. Whether the book has the memory that this ends with.
+fn replays(alloc: Global, replay: &mut Vec<Told>, book: &Book) -> Option<bool> {
+    let mut memory = Memory::new(alloc, book.room()).ok()?;
+    replay_entries(alloc, &mut memory, replay, book)?;
+    hold_the_same(alloc, &memory, book.memory())
+}
+
+/// Whether what was told is what the replay tells of its place, of which nothing was seen before; then it is seen.
+fn is_first(told: &Told, replay: &[Told], seen: &mut [bool]) -> bool {
+    let Some(seen) = seen.get_mut(told.place as usize) else {
+        return false;
+    };
+    let Some(other) = replay.get(told.place as usize) else {
+        return false;
+    };
+    if *seen || !told.agrees(other) {
+        return false;
+    }
+    *seen = true;
+    true
+}
+
+/// Whether what was told is what the replay tells of its place, and each place is seen once.
+fn are_all_once(told: &[Told], replay: &[Told], seen: &mut [bool]) -> bool {
+    for one in told {
+        if !is_first(one, replay, seen) {
+            return false;
+        }
+    }
+    seen.iter().all(|seen| *seen)
 }
 
 /// Whether what was told is what the replay tells of its place, and of each place something was told once.
@@ -63,49 +119,30 @@ fn is_borne_out(alloc: Global, told: &[Told], replay: &[Told]) -> Option<bool> {
     for _ in replay {
         seen.push(false).ok()?;
     }
-    for one in told {
-        let Some(seen) = seen.get_mut(one.place as usize) else {
-            return Some(false);
-        };
-        let Some(other) = replay.get(one.place as usize) else {
-            return Some(false);
-        };
-        if *seen || !one.agrees(other) {
-            return Some(false);
-        }
-        *seen = true;
-    }
-    Some(seen.iter().all(|seen| *seen))
+    Some(are_all_once(told, replay, &mut seen))
 }
 
 /// Whether each caller was told of its calls in the order of their places.
-fn is_in_order(alloc: Global, told: &[Told]) -> Option<bool> {
-    let mut ends = Vec::new(alloc);
-    for _ in 0..CALLER_LIMIT {
-        ends.push(0).ok()?;
-    }
+fn is_in_order(told: &[Told]) -> bool {
+    let mut ends = [0_u64; CALLER_LIMIT];
     for one in told {
         let Some(end) = ends.get_mut(one.caller as usize) else {
-            return Some(false);
+            return false;
         };
         if one.place < *end {
-            return Some(false);
+            return false;
         }
         *end = one.place.saturating_add(1);
     }
-    Some(true)
+    true
 }
 
 /// Whether of each entry of a book one caller was told, what the replay of the history tells of the call that it made, and of its
 /// own entries in their order; whether the book has the memory that the replay ends with, and is found right by its audit.
 pub(crate) fn is_told_right(alloc: Global, book: &Book, told: &[Told]) -> Option<bool> {
-    let (replay, end) = replayed(alloc, book)?;
-    let memory = memory_text(alloc, book.memory())?;
     let audited = book.audit(&Sequential, alloc).ok()?;
-    Some(
-        audited
-            && memory == end
-            && is_in_order(alloc, told)?
-            && is_borne_out(alloc, told, &replay)?,
-    )
+    let mut replay = Vec::new(alloc);
+    let replayed = replays(alloc, &mut replay, book)?;
+    let borne_out = is_borne_out(alloc, told, &replay)?;
+    Some(audited && replayed && borne_out && is_in_order(told))
 }

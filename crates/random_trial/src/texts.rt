@@ -2,7 +2,7 @@
 
 use cvl_text::{Call, Reply, write_value};
 use std::alloc::Global;
-use vector_memory::Memory;
+use vector_memory::{Memory, Name, Value};
 
 /// A call with all its names, numbers and items.
 pub(crate) fn call_text(alloc: Global, call: &Call) -> Option<String> {
@@ -22,14 +22,25 @@ pub(crate) fn text_of(alloc: Global, reply: &Reply) -> Option<Vec<u8>> {
     Some(text)
 }
 
+/// A line for a name and its value, behind the text.
+fn write_entry(text: &mut Vec<u8>, name: &Name, value: &Value) -> Option<()> {
+    text.extend_from_slice(name.text()).ok()?;
+    text.push(b' ').ok()?;
+    write_value(value, text).ok()?;
+    text.push(b'\n').ok()
+}
+
 /// A line for each name of a memory, in their order, with its value.
-pub(crate) fn memory_text(alloc: Global, memory: &Memory) -> Option<Vec<u8>> {
+fn memory_text(alloc: Global, memory: &Memory) -> Option<Vec<u8>> {
     let mut text = Vec::new(alloc);
     for (name, value) in memory.iter() {
-        text.extend_from_slice(name.text()).ok()?;
-        text.push(b' ').ok()?;
-        write_value(value, &mut text).ok()?;
-        text.push(b'\n').ok()?;
+        write_entry(&mut text, name, value)?;
     }
     Some(text)
+}
+
+/// Whether two memories have the same names, in the same order, with the same values.
+pub(crate) fn hold_the_same(alloc: Global, one: &Memory, other: &Memory) -> Option<bool> {
+    let text = memory_text(alloc, one)?;
+    Some(text == memory_text(alloc, other)?)
 }

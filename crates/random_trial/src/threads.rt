@@ -3,7 +3,7 @@
 ghost use Rattle.std.specs.Prelude.{◌≡◌, All, IfSome};
 ghost use Rattle.combiner.specs.Standing.{IsIdle};
 
-use crate::replay::{Told, is_told_right};
+use crate::replay::{Told, is_told_right, note};
 use crate::script::{CALLERS, Script};
 use crate::texts::call_text;
 use combiner::{Caller, Shared};
@@ -40,9 +40,7 @@ fn call_line(
     let call = Call::read(alloc, line.as_bytes()).ok()?;
     let text = call_text(alloc, &call)?;
     let (place, reply) = shared.call(rt, alloc, caller, call).ok()?;
-    told.push(Told::new(alloc, caller.number() as u64, text, place, &reply)?)
-        .ok()?;
-    Some(())
+    note(alloc, told, caller.number() as u64, text, place, &reply)
 }
 
 /// Calls what every so manyeth of these lines says, from this one on.
@@ -92,6 +90,40 @@ fn work<R: Threads + Wait + Sync>(
     .ok()
 }
 
+/// Adds what one caller was told.
+fn add(told: &mut Vec<Told>, one: Option<Vec<Told>>) -> Option<()> {
+    let mut one = one?;
+    told.append(&mut one).ok()
+}
+
+/// Adds what each caller was told.
+fn add_all(told: &mut Vec<Told>, parts: Vec<Option<Vec<Told>>>) -> Option<()> {
+    for one in parts {
+        add(told, one)?;
+    }
+    Some(())
+}
+
+/// Has the last caller call the opening of a script, and the others the calls behind it. What they are told.
+fn call_script<R: Threads + Wait + Sync>(
+    rt: &R,
+    alloc: Global,
+    shared: &Shared,
+    callers: Vec<Caller>,
+    last: &mut Caller,
+    script: &Script,
+) -> Option<Vec<Told>>
+    requires workers { All (λ c. (c.machine ≡ shared.now) × IsIdle c) callers.items }
+    requires machine { last.old.machine ≡ shared.now }
+    requires idle { IsIdle last.old }
+    ensures machine { last.new.machine ≡ shared.now }
+{
+    let mut told = call_lines(rt, alloc, shared, last, &script.opening, 0, 1)?;
+    let parts = work(rt, alloc, shared, callers, &script.calls)?;
+    add_all(&mut told, parts)?;
+    Some(told)
+}
+
 /// Whether what the callers are told is borne out by the machine's book.
 pub(crate) fn is_right<R: Threads + Wait + Sync>(
     rt: &R,
@@ -99,10 +131,7 @@ pub(crate) fn is_right<R: Threads + Wait + Sync>(
     script: &Script,
 ) -> Option<bool> {
     let (shared, callers, mut last) = machine(alloc, script.room)?;
-    let mut told = call_lines(rt, alloc, &shared, &mut last, &script.opening, 0, 1)?;
-    for one in work(rt, alloc, &shared, callers, &script.calls)? {
-        told.append(&mut one?).ok()?;
-    }
+    let told = call_script(rt, alloc, &shared, callers, &mut last, script)?;
     let book = shared.close(last).ok()?;
     is_told_right(alloc, &book, &told)
 }
