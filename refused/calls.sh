@@ -6,7 +6,7 @@
 # a history that could not be reserved. The batch and the pass with an empty vector must also be served once with a joined run refused
 # and every call answered. Status 1: something was not so; 2: the tests are not built; 3: nothing was tried, since there is no cc.
 cd "$(dirname "$0")/.." || exit 1
-crates='kernel_tests call_tests batch_tests block_tests combiner'
+crates='kernel_tests call_tests batch_tests machine_tests'
 for crate in $crates; do
     [ -x "crates/$crate/out/${crate}_tests" ] || { echo "refused: the tests of $crate are not built" >&2; exit 2; }
 done

@@ -14,8 +14,6 @@ mod own;
 mod own_block;
 mod pass;
 mod shared;
-#[cfg(test)]
-mod tests;
 
 pub use answers::{Combined, Occupied, OccupiedBlock, Polled, Unfinished};
 pub use caller::Caller;

@@ -1,6 +1,0 @@
-use Rattle.std.proofs.Common.{◌≡◌}
-use Rattle.combiner.specs.Standing.{IsIdle}
-use Rattle.block_tests.proofs.refused.open.Given as goal
-
-abbrev pub invariant-loop-line : goal.invariant-loop-line
-invariant-loop-line g l = (l.caller.machine ≡ l.shared) × IsIdle l.caller

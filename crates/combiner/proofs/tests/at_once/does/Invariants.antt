@@ -1,6 +1,0 @@
-use Rattle.std.proofs.Common.{◌≡◌}
-use Rattle.combiner.specs.Standing.{IsIdle}
-use Rattle.combiner.proofs.tests.at_once.does.Given as goal
-
-abbrev pub invariant-loop : goal.invariant-loop
-invariant-loop g l = (l.caller.machine ≡ l.shared) × IsIdle l.caller

@@ -1,7 +1,0 @@
-use Rattle.std.proofs.Common.{◌≡◌}
-use Rattle.std.specs.Prelude.{All}
-use Rattle.std.specs.Vec.Iter.{into_iter_items}
-use Rattle.combiner.proofs.tests.batches.leave_all.Given as goal
-
-abbrev pub invariant-loop-caller : goal.invariant-loop-caller
-invariant-loop-caller l = All (λ c. c.machine ≡ l.shared) l.left.items × All (λ c. c.machine ≡ l.shared) (into_iter_items l.caller-iterator)

@@ -1,0 +1,6 @@
+use Rattle.std.proofs.Common.{◌≡◌}
+use Rattle.combiner.specs.Standing.{IsIdle}
+use Rattle.machine_tests.proofs.asking.expect_replies.Given as goal
+
+abbrev pub invariant-loop-line : goal.invariant-loop-line
+invariant-loop-line g l = (l.caller.machine ≡ l.shared) × IsIdle l.caller

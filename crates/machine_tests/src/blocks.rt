@@ -1,0 +1,7 @@
+//! Blocks: of changes in a memory, of calls on a book, and of calls on the shared machine.
+
+mod bank;
+mod books;
+mod machines;
+mod memories;
+mod refused;
