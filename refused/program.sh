@@ -1,7 +1,7 @@
 #!/bin/sh
-# refused/program.sh: runs the built program on the examples and on the scripts beside this file, with one growth, start of a thread,
-# read or write refused in each run, and with each script cut at each byte. A run must end with the text of some first lines and the
-# status of what was refused; nothing may be lost or told wrongly.
+# refused/program.sh: runs the built program on the examples, but for the long ones of every call, and on the scripts beside this
+# file, with one growth, start of a thread, read or write refused in each run, and with each script cut at each byte. A run must
+# end with the text of some first lines and the status of what was refused; nothing may be lost or told wrongly.
 # Status 1: something was not so; 2: the program is not built; 3: nothing was tried, since there is no cc.
 cd "$(dirname "$0")/.." || exit 1
 program=$PWD/crates/cvl/out/cvl
@@ -35,6 +35,7 @@ done > "$two.cvl"
 set --
 for output in examples/*.out refused/scripts/*.out "$two".threads.out; do
     case $output in
+        examples/every_*) continue ;;
         *.threads.out) mode=threads script=${output%.threads.out}.cvl ;;
         *) mode=serial script=${output%.out}.cvl ;;
     esac

@@ -1,5 +1,5 @@
-//! Runs each example script of a folder and each row of its table `errors.txt`, and prints how it went. The folder is the
-//! argument, or where the program runs.
+//! Runs each example script of a folder and each row of its tables `errors.txt` and `rows.txt`, and prints how it went. The
+//! folder is the argument, or where the program runs.
 //!
 //! The examples lie in this crate's folder `data`, because the gate runs a program where the files of its `data` lie.
 #![tactic(auto)]
@@ -15,8 +15,8 @@ use std::sync::Wait;
 use std::thread::Threads;
 use std::{env, io};
 
-/// The table of rows, beside the scripts.
-const TABLE: &str = "errors.txt";
+/// The tables of rows, beside the scripts.
+const TABLES: [&str; 2] = ["errors.txt", "rows.txt"];
 
 /// The folder that the arguments name.
 fn folder(rt: &HostRuntime) -> io::Result<String> {
@@ -41,22 +41,26 @@ fn print_scripts<
     Ok(())
 }
 
-/// Prints the numbers of the rows that are not answered as they say, and how many rows there are.
+/// Prints the numbers of the rows of a table that are not answered as they say, and how many rows it has.
 fn print_rows<R: Files + Alloc<A = Global> + Print + Threads + Wait + Execution<Shared = R> + Sync>(
     rt: &R,
     folder: &str,
+    table: &str,
 ) -> io::Result<()> {
-    let checked = rows::check(rt, folder, TABLE)?;
+    let checked = rows::check(rt, folder, table)?;
     for row in checked.differing {
-        println!(rt; "{TABLE} differs at line {row}")?;
+        println!(rt; "{table} differs at line {row}")?;
     }
     let count = checked.count;
-    println!(rt; "{TABLE} {count} rows")
+    println!(rt; "{table} {count} rows")
 }
 
 fn main(rt: HostRuntime) -> io::Result<()> {
     let folder = folder(&rt)?;
     let names = scripts::names(&rt, &folder)?;
     print_scripts(&rt, &folder, &names)?;
-    print_rows(&rt, &folder)
+    for table in TABLES {
+        print_rows(&rt, &folder, table)?;
+    }
+    Ok(())
 }

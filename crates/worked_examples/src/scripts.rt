@@ -1,7 +1,7 @@
 //! Scripts `NAME.cvl`, each with the text that it is to be answered with beside it, `NAME.out`. Those whose names end with
 //! `.threads` are run in that mode.
 
-use crate::runs::run;
+use crate::runs::{STEPS, run};
 use scan_kernels::Execution;
 use std::alloc::{Alloc, Global};
 use std::rt::Files;
@@ -32,21 +32,28 @@ fn mode_of(name: &str) -> &str {
     }
 }
 
-/// The first line, counted from 1, where the program's answer to a script is not the text beside it.
+/// The first line, counted from 1, where the program's answer to a script is not the text beside it, however the script is
+/// cut by reads.
 pub fn first_difference<
     R: Files + Alloc<A = Global> + Threads + Wait + Execution<Shared = R> + Sync,
 >(rt: &R, folder: &str, name: &str) -> io::Result<Option<usize>> {
     let script = fs::read(rt, format!(in rt.alloc(); "{folder}/{name}.cvl")?)?;
     let text = fs::read(rt, format!(in rt.alloc(); "{folder}/{name}.out")?)?;
-    let ran = run(rt, mode_of(name), &script)?;
-    if ran.text == text && ran.status == 0 {
-        return Ok(None);
+    for step in STEPS {
+        let ran = run(rt, mode_of(name), &script, step)?;
+        if ran.text != text || ran.status != 0 {
+            return Ok(Some(line_apart(&ran.text, &text)));
+        }
     }
-    let same = ran
-        .text
+    Ok(None)
+}
+
+/// The first line, counted from 1, where one text is not the other.
+fn line_apart(left: &[u8], right: &[u8]) -> usize {
+    let same = left
         .iter()
-        .zip(&text)
+        .zip(right)
         .take_while(|(left, right)| left == right);
     let lines = same.filter(|(left, _)| **left == b'\n').count();
-    Ok(Some(lines + 1))
+    lines + 1
 }

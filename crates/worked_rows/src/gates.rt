@@ -1,6 +1,6 @@
 //! Worker threads with gates that hold them or stop them.
 
-use crate::streams::Pieces;
+use crate::program::whole;
 use cvl_text::{Call, Reply};
 use scan_kernels::Sequential;
 use script_main::{Gate, ReadSource, RunFault, Settled, read_script, run_threads};
@@ -8,7 +8,6 @@ use std::alloc::{Alloc, Global};
 use std::process::Abort;
 use std::sync::Wait;
 use std::sync::atomic::{AtomicU64, Ordering};
-use std::test::Fail;
 use std::thread;
 use std::thread::Threads;
 
@@ -27,13 +26,9 @@ fn waits_for(word: &AtomicU64) -> bool {
 }
 
 /// The calls of a script.
-fn scripts_of(alloc: Global, bytes: &[u8]) -> Result<Vec<Vec<Call>>, RunFault> {
-    let mut source = ReadSource::new(Pieces {
-        bytes,
-        step: 1000,
-        fails: None,
-    });
-    read_script(alloc, &mut source)
+fn scripts_of(rt: &impl Abort, alloc: Global, bytes: &[u8]) -> Vec<Vec<Call>> {
+    let mut source = ReadSource::new(whole(bytes, 1000));
+    read_script(alloc, &mut source).expect(rt, "no script")
 }
 
 /// How many replies each worker had, the length of the history, and the texts of all replies, each with a line feed.
@@ -45,27 +40,28 @@ struct Came {
 }
 
 /// Puts the texts of replies behind others, a line for each.
-fn say_all(said: &mut Vec<u8>, replies: &[Reply]) -> Result<(), Fail> {
+fn say_all(rt: &impl Abort, said: &mut Vec<u8>, replies: &[Reply]) {
     for reply in replies {
-        reply.write(said)?;
-        said.push(b'\n')?;
+        reply.write(said).expect(rt, "memory");
+        said.push(b'\n').expect(rt, "memory");
     }
-    Ok(())
 }
 
-/// What is kept of a run that settled.
-fn came_of(alloc: Global, settled: &Settled) -> Result<Came, Fail> {
+/// What is kept of a run that settled, whose history is audited.
+fn came_of(rt: &impl Abort, alloc: Global, settled: Settled) -> Came {
+    let audited = settled.book.audit(&Sequential, alloc);
+    assert!(rt; audited.expect(rt, "memory"));
     let mut replies = Vec::new(alloc);
     let mut said = Vec::new(alloc);
     for own in &settled.replies {
-        replies.push(own.len())?;
-        say_all(&mut said, own)?;
+        replies.push(own.len()).expect(rt, "memory");
+        say_all(rt, &mut said, own);
     }
-    Ok(Came {
+    Came {
         replies,
         history: settled.book.len(),
         said,
-    })
+    }
 }
 
 /// Runs a script through a gate.
@@ -73,26 +69,29 @@ fn run_through<G: Gate + Sync>(
     rt: &(impl Alloc<A = Global> + Threads + Wait + Abort + Sync),
     script: &[u8],
     gate: &G,
-) -> Result<Result<Came, RunFault>, Fail> {
-    let scripts = scripts_of(rt.alloc(), script)?;
+) -> Result<Came, RunFault> {
+    let scripts = scripts_of(rt, rt.alloc(), script);
     assert!(rt; scripts.len() <= 64);
-    let settled = match run_threads(rt, rt.alloc(), scripts, 100, gate) {
-        Ok(settled) => settled,
-        Err(fault) => return Ok(Err(fault)),
-    };
-    assert!(rt; settled.book.audit(&Sequential, rt.alloc())?);
-    Ok(Ok(came_of(rt.alloc(), &settled)?))
+    let settled = run_threads(rt, rt.alloc(), scripts, 100, gate)?;
+    Ok(came_of(rt, rt.alloc(), settled))
+}
+
+/// Runs a script through a gate that lets all calls pass.
+fn settle<G: Gate + Sync>(
+    rt: &(impl Alloc<A = Global> + Threads + Wait + Abort + Sync),
+    script: &[u8],
+    gate: &G,
+) -> Came {
+    run_through(rt, script, gate).expect(rt, "a run that settles")
 }
 
 /// Three workers: the first has no call, the others one each.
 const ONE_EACH: &[u8] = b"1: a = z 1\n2: b = z 2\n";
 
-/// Whether the run settled with both calls.
-fn has_both(came: Result<Came, RunFault>) -> bool {
-    match came {
-        Ok(came) => came.history == 2 && came.replies.as_slice() == [0, 1, 1].as_slice(),
-        Err(_) => false,
-    }
+/// Asserts that the run had both calls.
+fn expect_both(rt: &impl Abort, came: &Came) {
+    assert!(rt; came.history == 2);
+    assert!(rt; came.replies.as_slice() == [0, 1, 1].as_slice());
 }
 
 /// Holds worker 1 before its call until worker 2 has been answered.
@@ -111,12 +110,11 @@ impl Gate for Follows {
 }
 
 #[test]
-fn two_under_way(rt: HostRuntime) -> Result<(), Fail> {
+fn two_under_way(rt: HostRuntime) {
     let gate = Follows {
         answered: AtomicU64::new(0),
     };
-    assert!(rt; has_both(run_through(&rt, ONE_EACH, &gate)?));
-    Ok(())
+    expect_both(&rt, &settle(&rt, ONE_EACH, &gate));
 }
 
 /// Holds workers 1 and 2 before their calls until both have been asked.
@@ -141,13 +139,12 @@ impl Gate for Meets {
 }
 
 #[test]
-fn both_posted(rt: HostRuntime) -> Result<(), Fail> {
+fn both_posted(rt: HostRuntime) {
     let gate = Meets {
         first: AtomicU64::new(0),
         second: AtomicU64::new(0),
     };
-    assert!(rt; has_both(run_through(&rt, ONE_EACH, &gate)?));
-    Ok(())
+    expect_both(&rt, &settle(&rt, ONE_EACH, &gate));
 }
 
 /// Holds worker 0 before its call until worker 1 was answered, and worker 1 before its call until worker 0 is held.
@@ -175,14 +172,13 @@ impl Gate for LeavesFirst {
 
 /// The call of worker 0 lies there while its gate holds it, so the pass of worker 1 serves it, before its own.
 #[test]
-fn asked_with_the_call_left(rt: HostRuntime) -> Result<(), Fail> {
+fn asked_with_the_call_left(rt: HostRuntime) {
     let gate = LeavesFirst {
         held: AtomicU64::new(0),
         answered: AtomicU64::new(0),
     };
-    let came = run_through(&rt, b"0: a = z 1\n1: get a\n", &gate)?;
-    assert!(rt; matches!(&came, Ok(came) if came.said.as_slice() == b"ok\nz 1\n".as_slice()));
-    Ok(())
+    let came = settle(&rt, b"0: a = z 1\n1: get a\n", &gate);
+    assert!(rt; came.said.as_slice() == b"ok\nz 1\n".as_slice());
 }
 
 /// Stops some of two workers at one turn.
@@ -200,7 +196,7 @@ impl Gate for Stops {
 }
 
 #[test]
-fn the_lowest_worker_that_is_stopped(rt: HostRuntime) -> Result<(), Fail> {
+fn the_lowest_worker_that_is_stopped(rt: HostRuntime) {
     let script = b"0: a = z 1\n1: b = z 2\n";
     let cases = [(true, false, 0), (false, true, 1), (true, true, 0)];
     for (first, second, lowest) in cases {
@@ -209,23 +205,21 @@ fn the_lowest_worker_that_is_stopped(rt: HostRuntime) -> Result<(), Fail> {
             second,
             turn: 0,
         };
-        let came = run_through(&rt, script, &gate)?;
+        let came = run_through(&rt, script, &gate);
         assert!(rt; came.err() == Some(RunFault::Stopped(lowest)));
     }
-    Ok(())
 }
 
 /// What a gate says behind the last call changes nothing.
 #[test]
-fn the_last_answer_is_ignored(rt: HostRuntime) -> Result<(), Fail> {
+fn the_last_answer_is_ignored(rt: HostRuntime) {
     let gate = Stops {
         first: true,
         second: true,
         turn: 1,
     };
-    let came = run_through(&rt, b"0: a = z 1\n1: b = z 2\n", &gate)?;
-    assert!(rt; came.ok().map_or(0, |came| came.history) == 2);
-    Ok(())
+    let came = settle(&rt, b"0: a = z 1\n1: b = z 2\n", &gate);
+    assert!(rt; came.history == 2);
 }
 
 /// Adds up the turns that it is asked for, each with 1 more.
@@ -245,28 +239,26 @@ impl Gate for Counts {
 
 /// Workers of 2, 0 and 3 calls are asked 3, 1 and 4 times: for turns 0 to 2, 0, and 0 to 3.
 #[test]
-fn one_more_turn_than_calls(rt: HostRuntime) -> Result<(), Fail> {
+fn one_more_turn_than_calls(rt: HostRuntime) {
     let gate = Counts {
         asked: AtomicU64::new(0),
         turns: AtomicU64::new(0),
     };
     let script = b"0: a = z 1\n2: b = z 2\n0: get a\n2: get b\n2: fre_fov b\n";
-    let came = run_through(&rt, script, &gate)?;
-    assert!(rt; came.ok().map_or(0, |came| came.history) == 5);
+    let came = settle(&rt, script, &gate);
+    assert!(rt; came.history == 5);
     assert!(rt; gate.asked.load(Ordering::SeqCst) == 8);
     assert!(rt; gate.turns.load(Ordering::SeqCst) == 9);
-    Ok(())
 }
 
 /// For no scripts there is no worker, and no gate is asked.
 #[test]
-fn no_worker_without_scripts(rt: HostRuntime) -> Result<(), Fail> {
+fn no_worker_without_scripts(rt: HostRuntime) {
     let gate = Counts {
         asked: AtomicU64::new(0),
         turns: AtomicU64::new(0),
     };
-    let came = run_through(&rt, b"# nothing\n", &gate)?;
-    assert!(rt; matches!(&came, Ok(came) if came.history == 0 && came.replies.is_empty()));
+    let came = settle(&rt, b"# nothing\n", &gate);
+    assert!(rt; came.history == 0 && came.replies.is_empty());
     assert!(rt; gate.asked.load(Ordering::SeqCst) == 0);
-    Ok(())
 }

@@ -4,8 +4,8 @@ use crate::streams::{Full, Pieces, Short};
 use scan_kernels::Execution;
 use script_main::{ReadSource, RunFault, WriteSink, run_program, run_serial};
 use std::alloc::{Alloc, Global};
+use std::process::Abort;
 use std::sync::Wait;
-use std::test::Fail;
 use std::thread::Threads;
 
 /// What the program wrote, and its exit status.
@@ -15,171 +15,139 @@ pub struct Ran {
     pub status: u8,
 }
 
+/// Asserts that the program wrote this text and ended with this status.
+pub fn expect_ran(rt: &impl Abort, ran: &Ran, text: &[u8], status: u8) {
+    assert!(rt; ran.text.as_slice() == text);
+    assert!(rt; ran.status == status);
+}
+
 /// Runs the program with these arguments on a reader, with a writer that takes a number of bytes.
-pub fn run_on<R: Alloc<A = Global> + Threads + Wait + Execution<Shared = R> + Sync>(
+pub fn run_on<R: Alloc<A = Global> + Threads + Wait + Abort + Execution<Shared = R> + Sync>(
     rt: &R,
     arguments: &[&str],
     reader: Pieces<'_>,
     mut writer: Short,
-) -> Result<Ran, Fail> {
+) -> Ran {
     let mut words = Vec::new(rt.alloc());
     for argument in arguments {
-        words.push(argument.to_string(rt.alloc())?)?;
+        let word = argument.to_string(rt.alloc()).expect(rt, "memory");
+        words.push(word).expect(rt, "memory");
     }
     let mut source = ReadSource::new(reader);
     let mut sink = WriteSink::new(&mut writer);
     let status = run_program(rt, rt.alloc(), &words, &mut source, &mut sink);
-    Ok(Ran {
+    Ran {
         text: writer.taken,
         status,
-    })
+    }
 }
 
 /// A writer that takes this many bytes, some at a time, and then fails.
-pub fn writer(rt: &impl Alloc<A = Global>, step: usize, left: usize, full: Full) -> Short {
+pub fn writer(alloc: Global, step: usize, left: usize, full: Full) -> Short {
     Short {
-        taken: Vec::new(rt.alloc()),
+        taken: Vec::new(alloc),
         step,
         left,
         full,
     }
 }
 
+/// A reader of a script that does not fail.
+pub fn whole(bytes: &[u8], step: usize) -> Pieces<'_> {
+    Pieces {
+        bytes,
+        step,
+        fails: None,
+    }
+}
+
 /// Runs the program on a script, with nothing that fails.
-pub fn run<R: Alloc<A = Global> + Threads + Wait + Execution<Shared = R> + Sync>(
+pub fn run<R: Alloc<A = Global> + Threads + Wait + Abort + Execution<Shared = R> + Sync>(
     rt: &R,
     arguments: &[&str],
     script: &[u8],
     step: usize,
-) -> Result<Ran, Fail> {
-    let reader = Pieces {
-        bytes: script,
-        step,
-        fails: None,
-    };
-    run_on(
-        rt,
-        arguments,
-        reader,
-        writer(rt, 1000, usize::MAX, Full::Fails),
-    )
+) -> Ran {
+    let taking = writer(rt.alloc(), 1000, usize::MAX, Full::Fails);
+    run_on(rt, arguments, whole(script, step), taking)
 }
 
-/// Whether the program answers a script with this text and this status, however the script is cut by reads.
-pub fn answers<R: Alloc<A = Global> + Threads + Wait + Execution<Shared = R> + Sync>(
+/// Asserts that the program answers a script with this text and this status, however the script is cut by reads.
+pub fn expect_answer<R: Alloc<A = Global> + Threads + Wait + Abort + Execution<Shared = R> + Sync>(
     rt: &R,
     arguments: &[&str],
     script: &[u8],
     text: &[u8],
     status: u8,
-) -> Result<bool, Fail> {
-    let mut good = true;
+) {
     for step in [1, 2, 7, 100_000] {
-        let ran = run(rt, arguments, script, step)?;
-        good = good && ran.text.as_slice() == text && ran.status == status;
+        expect_ran(rt, &run(rt, arguments, script, step), text, status);
     }
-    Ok(good)
 }
 
-/// Whether the program answers so many first lines of a script with `ok`, and the others with this text.
-pub fn ends_with<R: Alloc<A = Global> + Threads + Wait + Execution<Shared = R> + Sync>(
-    rt: &R,
-    arguments: &[&str],
-    script: &str,
-    oks: usize,
-    text: &str,
-) -> Result<bool, Fail> {
-    let mut whole = Vec::new(rt.alloc());
-    for _ in 0..oks {
-        whole.extend_from_slice(b"0 ok\n")?;
-    }
-    whole.extend_from_slice(text.as_bytes())?;
-    let ran = run(rt, arguments, script.as_bytes(), 100_000)?;
-    Ok(ran.text == whole && ran.status == 0)
-}
+pub const USAGE: &[u8] = b"usage: cvl serial|threads [room]\n";
 
-const USAGE: &[u8] = b"usage: cvl serial|threads [room]\n";
-
-/// Arguments that ask for nothing that the program does.
-static WRONG: [&[&str]; 16] = [
-    &[],
-    &["Threads"],
-    &["serial", "threads"],
-    &["threads", "0"],
-    &["threads", "4", "4"],
-    &["Serial"],
-    &["serial "],
-    &[""],
-    &["serial", "0"],
-    &["serial", ""],
-    &["serial", "04"],
-    &["serial", "+4"],
-    &["serial", "-4"],
-    &["serial", "4 "],
-    &["serial", "67108865"],
-    &["serial", "4", "4"],
-];
+/// Arguments that ask for nothing that the program does, and that no table can hold, which parts them by spaces.
+static WRONG: [&[&str]; 3] = [&[], &["serial "], &["serial", "4 "]];
 
 #[test]
-fn usage_for_other_arguments(rt: HostRuntime) -> Result<(), Fail> {
-    let script = b"0: a = z 1\n";
+fn usage_for_other_arguments(rt: HostRuntime) {
     for arguments in &WRONG {
-        assert!(rt; answers(&rt, arguments, script, USAGE, 2)?);
+        expect_answer(&rt, arguments, b"0: a = z 1\n", USAGE, 2);
     }
-    assert!(rt; answers(&rt, &["serial", "18446744073709551617"], script, USAGE, 2)?);
-    Ok(())
 }
 
-#[test]
-fn rooms_from_the_arguments(rt: HostRuntime) -> Result<(), Fail> {
-    let script = b"0: a = z 1\n0: b = z 1\n";
-    assert!(rt; answers(&rt, &["serial"], script, b"0 ok\n0 ok\n", 0)?);
-    assert!(rt; answers(&rt, &["serial", "1"], script, b"0 ok\n0 fault 9\n", 0)?);
-    assert!(rt; answers(&rt, &["serial", "2"], script, b"0 ok\n0 ok\n", 0)?);
-    assert!(rt; answers(&rt, &["serial", "67108864"], script, b"0 ok\n0 ok\n", 0)?);
-    Ok(())
+/// Asserts that `run_serial` tells so of a run.
+fn expect_end<R: Alloc<A = Global> + Abort + Execution<Shared = R>>(
+    rt: &R,
+    reader: Pieces<'_>,
+    left: usize,
+    end: Result<(), RunFault>,
+) {
+    let mut source = ReadSource::new(reader);
+    let mut sink = WriteSink::new(writer(rt.alloc(), 1000, left, Full::Fails));
+    assert!(rt; run_serial(rt, rt.alloc(), 4, &mut source, &mut sink) == end);
 }
 
 /// `run_serial` tells how a run ended.
 #[test]
-fn tells_how_a_run_ended(rt: HostRuntime) -> Result<(), Fail> {
-    let ends: [(&[u8], Option<u64>, usize, Result<(), RunFault>); 5] = [
-        (b"0: a = z 1\n", None, 1000, Ok(())),
-        (b"0: a = z 1\n\noh\n", None, 1000, Err(RunFault::BadLine(3))),
-        (b"0: a = z 1\n", Some(0), 1000, Err(RunFault::Read)),
-        (b"0: a = z 1\n", None, 3, Err(RunFault::Write)),
-        (b"oh", None, 3, Err(RunFault::Write)),
-    ];
-    for (bytes, fails, left, end) in ends {
-        let mut source = ReadSource::new(Pieces {
-            bytes,
-            step: 1000,
-            fails,
-        });
-        let mut sink = WriteSink::new(writer(&rt, 1000, left, Full::Fails));
-        assert!(rt; run_serial(&rt, rt.alloc(), 4, &mut source, &mut sink) == end);
-    }
-    Ok(())
+fn tells_how_a_run_ended(rt: HostRuntime) {
+    let good = b"0: a = z 1\n";
+    let failing = Pieces {
+        bytes: good,
+        step: 1000,
+        fails: Some(0),
+    };
+    expect_end(&rt, whole(good, 1000), 1000, Ok(()));
+    let bad = RunFault::BadLine(3);
+    expect_end(&rt, whole(b"0: a = z 1\n\noh\n", 1000), 1000, Err(bad));
+    expect_end(&rt, failing, 1000, Err(RunFault::Read));
+    expect_end(&rt, whole(good, 1000), 3, Err(RunFault::Write));
+    expect_end(&rt, whole(b"oh", 1000), 3, Err(RunFault::Write));
 }
 
 /// The arguments are judged before any input is read, and the usage line may find no writer.
 #[test]
-fn usage_without_reader_or_writer(rt: HostRuntime) -> Result<(), Fail> {
+fn usage_without_reader_or_writer(rt: HostRuntime) {
     let failing = Pieces {
         bytes: b"",
         step: 1,
         fails: Some(0),
     };
-    let ran = run_on(&rt, &[], failing, writer(&rt, 1000, 1000, Full::Fails))?;
-    assert!(rt; ran.text.as_slice() == USAGE && ran.status == 2);
+    let ran = run_on(
+        &rt,
+        &[],
+        failing,
+        writer(rt.alloc(), 1000, 1000, Full::Fails),
+    );
+    expect_ran(&rt, &ran, USAGE, 2);
     for left in 0..USAGE.len() {
-        let reader = Pieces {
-            bytes: b"",
-            step: 1,
-            fails: None,
-        };
-        let ran = run_on(&rt, &[], reader, writer(&rt, 1, left, Full::Fails))?;
-        assert!(rt; ran.text.as_slice() == &USAGE[..left] && ran.status == 4);
+        let ran = run_on(
+            &rt,
+            &[],
+            whole(b"", 1),
+            writer(rt.alloc(), 1, left, Full::Fails),
+        );
+        expect_ran(&rt, &ran, &USAGE[..left], 4);
     }
-    Ok(())
 }
