@@ -3,9 +3,8 @@
 use call_history::{Book, CALLER_LIMIT};
 use cvl_text::Call;
 use scan_kernels::Execution;
-use std::alloc::Global;
+use std::alloc::{Alloc, Global};
 use std::process::Abort;
-use std::test::Fail;
 use std::thread::Threads;
 
 /// The place of a line's call that a caller ran, and the text of the reply.
@@ -15,15 +14,15 @@ fn run<R: Threads + Abort + Execution<Shared = R> + Sync>(
     book: &mut Book,
     caller: u64,
     line: &[u8],
-) -> Result<(u64, Vec<u8>), Fail> {
+) -> (u64, Vec<u8>) {
     assert!(rt; caller < CALLER_LIMIT as u64);
-    let call = Call::read(alloc, line)?;
+    let call = Call::read(alloc, line).expect(rt, "a call");
     let Ok((place, reply)) = book.run(rt, alloc, caller, call) else {
-        return Err("out of memory")?;
+        panic!(rt; "out of memory");
     };
     let mut text = Vec::new(alloc);
-    reply.write(&mut text)?;
-    Ok((place, text))
+    reply.write(&mut text).expect(rt, "memory");
+    (place, text)
 }
 
 /// Whether a line that a caller runs is answered at this place, with this text.
@@ -35,9 +34,9 @@ fn answers<R: Threads + Abort + Execution<Shared = R> + Sync>(
     line: &[u8],
     place: u64,
     wanted: &[u8],
-) -> Result<bool, Fail> {
-    let (found, text) = run(rt, alloc, book, caller, line)?;
-    Ok(found == place && text.as_slice() == wanted)
+) -> bool {
+    let (found, text) = run(rt, alloc, book, caller, line);
+    found == place && text.as_slice() == wanted
 }
 
 /// Whether the entry at a place is of this caller, with this ticket.
@@ -60,18 +59,24 @@ fn is_first_book(book: &Book) -> bool {
         && book.room() == 10
 }
 
-#[test]
-fn keeps_what_its_callers_ran(rt: HostRuntime) -> Result<(), Fail> {
-    let mut book = Book::new(rt.alloc(), 10)?;
+fn expect_first_book<R: Abort + Alloc<A = Global> + Threads + Execution<Shared = R> + Sync>(
+    rt: &R,
+    book: &mut Book,
+) {
     assert!(rt; book.is_empty());
-    assert!(rt; answers(&rt, rt.alloc(), &mut book, 3, b"a = z 1", 0, b"ok")?);
-    assert!(rt; answers(&rt, rt.alloc(), &mut book, 3, b"get b", 1, b"fault 1")?);
-    assert!(rt; answers(&rt, rt.alloc(), &mut book, 5, b"get a", 2, b"z 1")?);
-    assert!(rt; is_first_book(&book) && !book.is_empty());
-    book.reserve(1000)?;
-    assert!(rt; is_first_book(&book));
-    assert!(rt; book.audit(&rt, rt.alloc())?);
-    Ok(())
+    assert!(rt; answers(rt, rt.alloc(), book, 3, b"a = z 1", 0, b"ok"));
+    assert!(rt; answers(rt, rt.alloc(), book, 3, b"get b", 1, b"fault 1"));
+    assert!(rt; answers(rt, rt.alloc(), book, 5, b"get a", 2, b"z 1"));
+    assert!(rt; is_first_book(book) && !book.is_empty());
+    book.reserve(1000).expect(rt, "memory");
+    assert!(rt; is_first_book(book));
+    assert!(rt; book.audit(rt, rt.alloc()).expect(rt, "memory"));
+}
+
+#[test]
+fn keeps_what_its_callers_ran(rt: HostRuntime) {
+    let mut book = Book::new(rt.alloc(), 10).expect(&rt, "memory");
+    expect_first_book(&rt, &mut book);
 }
 
 /// The calls of a round.
@@ -88,16 +93,30 @@ const ROUND: [&[u8]; 10] = [
     b"get b",
 ];
 
-#[test]
-fn audits_ten_thousand_calls(rt: HostRuntime) -> Result<(), Fail> {
-    let mut book = Book::new(rt.alloc(), 100)?;
+fn run_round<R: Abort + Alloc<A = Global> + Threads + Execution<Shared = R> + Sync>(
+    rt: &R,
+    book: &mut Book,
+    caller: u64,
+) {
+    for line in &ROUND {
+        run(rt, rt.alloc(), book, caller, line);
+    }
+}
+
+fn expect_ten_thousand<R: Abort + Alloc<A = Global> + Threads + Execution<Shared = R> + Sync>(
+    rt: &R,
+    book: &mut Book,
+) {
     for round in 0..1000 {
-        for line in &ROUND {
-            run(&rt, rt.alloc(), &mut book, round % 64, line)?;
-        }
+        run_round(rt, book, round % 64);
     }
     assert!(rt; book.len() == 10_000);
-    assert!(rt; stands_at(&book, 9999, 39, 159));
-    assert!(rt; book.audit(&rt, rt.alloc())?);
-    Ok(())
+    assert!(rt; stands_at(book, 9999, 39, 159));
+    assert!(rt; book.audit(rt, rt.alloc()).expect(rt, "memory"));
+}
+
+#[test]
+fn audits_ten_thousand_calls(rt: HostRuntime) {
+    let mut book = Book::new(rt.alloc(), 100).expect(&rt, "memory");
+    expect_ten_thousand(&rt, &mut book);
 }

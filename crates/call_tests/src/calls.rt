@@ -1,57 +1,53 @@
 //! Each public function with ample memory. What each call replies is tested as scripts, above this crate.
 
-ghost use Rattle.std.specs.Prelude.{◌≡◌, None};
-
-use crate::refused::may_change;
+use crate::changing::assert_may_change;
 use cvl_calls::{
     Call, Fault, Judged, Product, Reply, Spare, Stop, alike, apply, call_word, check, judge, run,
     runs_kernel, step, step_with, work,
 };
 use scan_kernels::{Execution, Meter, Sequential};
-use std::alloc::Global;
-use std::test::Fail;
+use std::alloc::{Alloc, Global};
+use std::process::Abort;
 use std::thread::Threads;
 use vector_memory::{Memory, Name, Value};
 
 const ROOM: u64 = 1000;
 
-fn name(text: &[u8]) -> Result<Name, Fail> {
-    Ok(Name::read(text).ok_or("no name")?)
+fn name(rt: &impl Abort, text: &[u8]) -> Name {
+    Name::read(text).expect(rt, "no name")
 }
 
 /// Whether a line, run on the memory, is replied to so.
-#[tactic(auto, using(cvl_calls::proofs::BlockSteps::outside_may_change))]
-fn replies<R: Threads + Execution<Shared = R> + Sync>(
+fn replies<R: Abort + Threads + Execution<Shared = R> + Sync>(
     rt: &R,
     alloc: Global,
     memory: &mut Memory,
     line: &[u8],
     wanted: &[u8],
-) -> Result<bool, Fail>
-    requires outside { memory.old.block ≡ None }
-    ensures stays { memory.new.block ≡ None }
-{
-    let call = Call::read(alloc, line)?;
+) -> bool {
+    let call = Call::read(alloc, line).expect(rt, "a call");
     let mut text = Vec::new(alloc);
-    step(rt, alloc, memory, &call)?.write(&mut text)?;
-    Ok(text.as_slice() == wanted)
+    assert_may_change(rt, memory);
+    let reply = step(rt, alloc, memory, &call).expect(rt, "memory");
+    reply.write(&mut text).expect(rt, "memory");
+    text.as_slice() == wanted
 }
 
 /// How many kernels the work of a line runs.
-fn kernel_runs<R: Threads + Execution<Shared = R> + Sync>(
+fn kernel_runs<R: Abort + Threads + Execution<Shared = R> + Sync>(
     rt: &R,
     alloc: Global,
     memory: &Memory,
     line: &[u8],
-) -> Result<u64, Fail> {
-    let call = Call::read(alloc, line)?;
+) -> u64 {
+    let call = Call::read(alloc, line).expect(rt, "a call");
     let mut meter = Meter::new();
     let worked = work(rt, alloc, &mut meter, memory, &call).is_ok();
-    Ok(if worked {
+    if worked {
         meter.runs()
     } else {
         100 + meter.runs()
-    })
+    }
 }
 
 /// Lines, and what is replied to each, one after the other.
@@ -67,16 +63,19 @@ const STEPS: [(&[u8], &[u8]); 9] = [
     (b"len_fov a", b"fault 1"),
 ];
 
-#[test]
-fn steps_from_memory_to_memory(rt: HostRuntime) -> Result<(), Fail> {
-    let mut memory = Memory::new(rt.alloc(), ROOM)?;
+fn expect_steps<R: Abort + Alloc<A = Global> + Threads + Execution<Shared = R> + Sync>(
+    rt: &R,
+    memory: &mut Memory,
+) {
     for &(line, reply) in &STEPS {
-        assert!(rt;
-            replies(&rt, rt.alloc(), &mut memory, line, reply)?,
-            "{line:?}"
-        );
+        assert!(rt; replies(rt, rt.alloc(), memory, line, reply), "{line:?}");
     }
-    Ok(())
+}
+
+#[test]
+fn steps_from_memory_to_memory(rt: HostRuntime) {
+    let mut memory = Memory::new(rt.alloc(), ROOM).expect(&rt, "memory");
+    expect_steps(&rt, &mut memory);
 }
 
 /// How many kernels each line runs; 100 more where it has a fault.
@@ -93,73 +92,102 @@ const RUNS: [(&[u8], u64); 10] = [
     (b"b = lsh_wuz a c", 100),
 ];
 
-#[test]
-fn counts_the_kernels_that_ran(rt: HostRuntime) -> Result<(), Fail> {
-    let mut memory = Memory::new(rt.alloc(), ROOM)?;
-    assert!(rt; replies(&rt, rt.alloc(), &mut memory, b"a = z 3 1 4", b"ok")?);
+fn expect_runs<R: Abort + Alloc<A = Global> + Threads + Execution<Shared = R> + Sync>(
+    rt: &R,
+    memory: &mut Memory,
+) {
+    assert!(rt; replies(rt, rt.alloc(), memory, b"a = z 3 1 4", b"ok"));
     for &(line, runs) in &RUNS {
         assert!(rt;
-            kernel_runs(&rt, rt.alloc(), &memory, line)? == runs,
+            kernel_runs(rt, rt.alloc(), memory, line) == runs,
             "{line:?}"
         );
     }
-    Ok(())
+}
+
+#[test]
+fn counts_the_kernels_that_ran(rt: HostRuntime) {
+    let mut memory = Memory::new(rt.alloc(), ROOM).expect(&rt, "memory");
+    expect_runs(&rt, &mut memory);
 }
 
 /// More items than a line can hold: whether `step` finds so many truth values too long.
-#[tactic(auto, using(cvl_calls::proofs::BlockSteps::outside_may_change, cvl_calls::proofs::BlockSteps::steps_outside))]
-fn is_too_long<R: Threads + Execution<Shared = R> + Sync>(
+fn is_too_long<R: Abort + Threads + Execution<Shared = R> + Sync>(
     rt: &R,
     alloc: Global,
     memory: &mut Memory,
     items: usize,
-) -> Result<bool, Fail>
-    requires outside { memory.old.block ≡ None }
-    ensures stays { memory.new.block ≡ None }
-{
+) -> bool {
     let call = Call::SetBools {
-        to: name(b"a")?,
-        items: vec![in alloc; true; items]?,
+        to: name(rt, b"a"),
+        items: vec![in alloc; true; items].expect(rt, "memory"),
     };
-    Ok(matches!(
-        step(rt, alloc, memory, &call)?,
-        Reply::Fault(Fault::TooLong)
-    ))
+    assert_may_change(rt, memory);
+    let reply = step(rt, alloc, memory, &call).expect(rt, "memory");
+    matches!(reply, Reply::Fault(Fault::TooLong))
+}
+
+fn expect_limit<R: Abort + Alloc<A = Global> + Threads + Execution<Shared = R> + Sync>(
+    rt: &R,
+    memory: &mut Memory,
+) {
+    assert!(rt; !is_too_long(rt, rt.alloc(), memory, 1_048_576));
+    assert!(rt; memory.cells() == 1_048_576);
+    assert!(rt; is_too_long(rt, rt.alloc(), memory, 1_048_577));
+    assert!(rt; memory.cells() == 1_048_576);
 }
 
 #[test]
-fn limits_what_is_set(rt: HostRuntime) -> Result<(), Fail> {
-    let mut memory = Memory::new(rt.alloc(), 2_000_000)?;
-    assert!(rt; !is_too_long(&rt, rt.alloc(), &mut memory, 1_048_576)?);
-    assert!(rt; memory.cells() == 1_048_576);
-    assert!(rt; is_too_long(&rt, rt.alloc(), &mut memory, 1_048_577)?);
-    assert!(rt; memory.cells() == 1_048_576);
-    Ok(())
+fn limits_what_is_set(rt: HostRuntime) {
+    let mut memory = Memory::new(rt.alloc(), 2_000_000).expect(&rt, "memory");
+    expect_limit(&rt, &mut memory);
 }
 
-#[test]
-fn stops_at_a_fault(rt: HostRuntime) -> Result<(), Fail> {
-    let memory = Memory::new(rt.alloc(), ROOM)?;
-    let call = Call::Get { a: name(b"a")? };
-    let worked = work(&rt, rt.alloc(), &mut Meter::new(), &memory, &call);
+fn expect_a_stop<R: Abort + Alloc<A = Global> + Threads + Execution<Shared = R> + Sync>(
+    rt: &R,
+    memory: &Memory,
+) {
+    let call = Call::Get { a: name(rt, b"a") };
+    let worked = work(rt, rt.alloc(), &mut Meter::new(), memory, &call);
     assert!(rt; matches!(worked, Err(Stop::Fault(Fault::NoVector))));
-    Ok(())
 }
 
 #[test]
-#[tactic(auto, using(cvl_calls::proofs::BlockSteps::outside_may_change))]
-fn applies_a_product(rt: HostRuntime) -> Result<(), Fail> {
-    let mut memory = Memory::new(rt.alloc(), 2)?;
-    let to = Some(name(b"a")?);
-    let items = Vec::from_slice(rt.alloc(), &[4, 5])?;
-    let stored = apply(&mut memory, to, Product::Store(Value::Ints(items)))?;
+fn stops_at_a_fault(rt: HostRuntime) {
+    let memory = Memory::new(rt.alloc(), ROOM).expect(&rt, "memory");
+    expect_a_stop(&rt, &memory);
+}
+
+fn expect_stored<R: Abort + Alloc<A = Global> + Threads + Execution<Shared = R> + Sync>(
+    rt: &R,
+    memory: &mut Memory,
+) {
+    assert!(rt; memory.limit() >= 2, "no value fits");
+    let items = Vec::from_slice(rt.alloc(), &[4, 5]).expect(rt, "memory");
+    assert_may_change(rt, memory);
+    let stored = apply(
+        memory,
+        Some(name(rt, b"a")),
+        Product::Store(Value::Ints(items)),
+    )
+    .expect(rt, "memory");
     assert!(rt; matches!(stored, Reply::Done) && memory.cells() == 2);
-    if !may_change(&memory) {
-        Err("in a block")?;
-    }
-    let freed = apply(&mut memory, to, Product::Free)?;
+}
+
+fn expect_freed<R: Abort + Alloc<A = Global> + Threads + Execution<Shared = R> + Sync>(
+    rt: &R,
+    memory: &mut Memory,
+) {
+    assert_may_change(rt, memory);
+    let freed = apply(memory, Some(name(rt, b"a")), Product::Free).expect(rt, "memory");
     assert!(rt; matches!(freed, Reply::Done) && memory.is_empty());
-    Ok(())
+}
+
+#[test]
+fn applies_a_product(rt: HostRuntime) {
+    let mut memory = Memory::new(rt.alloc(), 2).expect(&rt, "memory");
+    expect_stored(&rt, &mut memory);
+    expect_freed(&rt, &mut memory);
 }
 
 /// Lines, and the fault that is found before anything is made.
@@ -175,31 +203,44 @@ const CHECKS: [(&[u8], Option<Fault>); 9] = [
     (b"c = alo_foz 2000", None),
 ];
 
-#[test]
-fn checks_before_anything_is_made(rt: HostRuntime) -> Result<(), Fail> {
-    let mut memory = Memory::new(rt.alloc(), ROOM)?;
-    assert!(rt; replies(&rt, rt.alloc(), &mut memory, b"a = z 2 0 1", b"ok")?);
-    assert!(rt; replies(&rt, rt.alloc(), &mut memory, b"b = z 0 3", b"ok")?);
+fn expect_checks<R: Abort + Alloc<A = Global> + Threads + Execution<Shared = R> + Sync>(
+    rt: &R,
+    memory: &mut Memory,
+) {
+    assert!(rt; replies(rt, rt.alloc(), memory, b"a = z 2 0 1", b"ok"));
+    assert!(rt; replies(rt, rt.alloc(), memory, b"b = z 0 3", b"ok"));
     for &(line, fault) in &CHECKS {
-        let call = Call::read(rt.alloc(), line)?;
-        assert!(rt; check(rt.alloc(), &memory, &call)? == fault, "{line:?}");
+        let call = Call::read(rt.alloc(), line).expect(rt, "a call");
+        let found = check(rt.alloc(), memory, &call).expect(rt, "memory");
+        assert!(rt; found == fault, "{line:?}");
     }
-    Ok(())
 }
 
 #[test]
-fn runs_what_was_judged(rt: HostRuntime) -> Result<(), Fail> {
-    let mut memory = Memory::new(rt.alloc(), ROOM)?;
-    assert!(rt; replies(&rt, rt.alloc(), &mut memory, b"a = z 2 0 1", b"ok")?);
-    let call = Call::read(rt.alloc(), b"add_ruz a")?;
+fn checks_before_anything_is_made(rt: HostRuntime) {
+    let mut memory = Memory::new(rt.alloc(), ROOM).expect(&rt, "memory");
+    expect_checks(&rt, &mut memory);
+}
+
+fn expect_a_run<R: Abort + Alloc<A = Global> + Threads + Execution<Shared = R> + Sync>(
+    rt: &R,
+    memory: &mut Memory,
+) {
+    assert!(rt; replies(rt, rt.alloc(), memory, b"a = z 2 0 1", b"ok"));
+    let call = Call::read(rt.alloc(), b"add_ruz a").expect(rt, "a call");
     let mut meter = Meter::new();
-    let Ok(judged) = judge(rt.alloc(), &memory, &call) else {
-        return Err("a fault")?;
+    let Ok(judged) = judge(rt.alloc(), memory, &call) else {
+        panic!(rt; "a fault");
     };
     assert!(rt; matches!(judged, Judged::ReduceInts(_, [2, 0, 1])));
-    let product = run(&Sequential, rt.alloc(), &mut meter, judged)?;
+    let product = run(&Sequential, rt.alloc(), &mut meter, judged).expect(rt, "memory");
     assert!(rt; matches!(product, Product::Reply(Reply::Int(3))) && meter.runs() == 1);
-    Ok(())
+}
+
+#[test]
+fn runs_what_was_judged(rt: HostRuntime) {
+    let mut memory = Memory::new(rt.alloc(), ROOM).expect(&rt, "memory");
+    expect_a_run(&rt, &mut memory);
 }
 
 /// Two lines, and whether their calls are alike.
@@ -214,33 +255,30 @@ const PAIRS: [(&[u8], &[u8], bool); 7] = [
 ];
 
 #[test]
-fn knows_alike_calls(rt: HostRuntime) -> Result<(), Fail> {
+fn knows_alike_calls(rt: HostRuntime) {
     for &(one, other, are_alike) in &PAIRS {
-        let one = Call::read(rt.alloc(), one)?;
-        let other = Call::read(rt.alloc(), other)?;
+        let one = Call::read(rt.alloc(), one).expect(&rt, "a call");
+        let other = Call::read(rt.alloc(), other).expect(&rt, "a call");
         assert!(rt; alike(&one, &other) == are_alike, "{one:?}");
         assert!(rt; !are_alike || runs_kernel(call_word(&one)), "{one:?}");
     }
-    Ok(())
 }
 
 /// The reply to a line that is run on the memory with what was kept.
-#[tactic(auto, using(cvl_calls::proofs::BlockSteps::outside_may_change))]
-fn replied_with<'a, R: Threads + Execution<Shared = R> + Sync>(
+fn replied_with<R: Abort + Threads + Execution<Shared = R> + Sync>(
     rt: &R,
     alloc: Global,
     spare: &mut Spare,
     memory: &mut Memory,
     line: &[u8],
-) -> Result<Vec<u8>, Fail>
-    requires outside { memory.old.block ≡ None }
-    ensures stays { memory.new.block ≡ None }
-{
-    let call = Call::read(alloc, line)?;
+) -> Vec<u8> {
+    let call = Call::read(alloc, line).expect(rt, "a call");
     let mut text = Vec::new(alloc);
     let mut meter = Meter::new();
-    step_with(rt, alloc, &mut meter, spare, memory, &call)?.write(&mut text)?;
-    Ok(text)
+    assert_may_change(rt, memory);
+    let reply = step_with(rt, alloc, &mut meter, spare, memory, &call).expect(rt, "memory");
+    reply.write(&mut text).expect(rt, "memory");
+    text
 }
 
 /// Lines, their replies, and how many bytes are kept behind each.
@@ -260,14 +298,21 @@ const KEPT: &[(&[u8], &[u8], usize)] = &[
     (b"get d", b"z 31 62 93", 72_003),
 ];
 
-#[test]
-fn keeps_what_stores_replace(rt: HostRuntime) -> Result<(), Fail> {
-    let mut memory = Memory::new(rt.alloc(), 20_000)?;
-    let mut spare = Spare::new(rt.alloc());
+fn expect_kept<R: Abort + Alloc<A = Global> + Threads + Execution<Shared = R> + Sync>(
+    rt: &R,
+    spare: &mut Spare,
+    memory: &mut Memory,
+) {
     for &(line, reply, bytes) in KEPT {
-        let said = replied_with(&rt, rt.alloc(), &mut spare, &mut memory, line)?;
-        assert!(&rt; said.as_slice() == reply);
-        assert_eq!(&rt; spare.bytes(), bytes);
+        let said = replied_with(rt, rt.alloc(), spare, memory, line);
+        assert!(rt; said.as_slice() == reply);
+        assert_eq!(rt; spare.bytes(), bytes);
     }
-    Ok(())
+}
+
+#[test]
+fn keeps_what_stores_replace(rt: HostRuntime) {
+    let mut memory = Memory::new(rt.alloc(), 20_000).expect(&rt, "memory");
+    let mut spare = Spare::new(rt.alloc());
+    expect_kept(&rt, &mut spare, &mut memory);
 }

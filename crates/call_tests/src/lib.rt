@@ -7,6 +7,8 @@ mod books;
 #[cfg(test)]
 mod calls;
 #[cfg(test)]
+mod changing;
+#[cfg(test)]
 mod memories;
 #[cfg(test)]
 mod overwriting;

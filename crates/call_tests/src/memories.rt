@@ -1,18 +1,17 @@
 //! Each public call once, with ample memory.
 
-ghost use Rattle.std.specs.Prelude.{◌≡◌, None, IfOk};
 ghost use Rattle.vector_memory.specs.Contents.{content_of};
 ghost use Rattle.vector_memory.specs.States.{FitsLimits, IsLawfulLimit};
 
+use crate::changing::assert_may_change;
 use segment_desc::Segd;
 use std::alloc::Global;
 use std::process::Abort;
-use std::test::Fail;
 use vector_memory::laws::memories_are_lawful;
 use vector_memory::{ITEM_LIMIT, Memory, NAME_LIMIT, Name, ROOM_LIMIT, StoreFault, Value};
 
-fn name(text: &[u8]) -> Result<Name, Fail> {
-    Ok(Name::read(text).ok_or("no name")?)
+fn name(rt: &impl Abort, text: &[u8]) -> Name {
+    Name::read(text).expect(rt, "no name")
 }
 
 /// What a value is made of: integers, truth values or the lengths of segments.
@@ -23,49 +22,47 @@ enum Plain<'a> {
     Segs(&'a [i64]),
 }
 
-fn made(alloc: Global, plain: Plain<'_>, limit: usize) -> Result<Value, Fail>
+fn made(rt: &impl Abort, alloc: Global, plain: Plain<'_>, limit: usize) -> Value
     requires { IsLawfulLimit limit }
-    ensures { IfOk result (λ value. FitsLimits limit (content_of value)) }
+    ensures { FitsLimits limit (content_of result) }
 {
     match plain {
         Plain::Ints(items) if items.len() <= limit => {
-            Ok(Value::Ints(Vec::from_slice(alloc, items)?))
+            Value::Ints(Vec::from_slice(alloc, items).expect(rt, "memory"))
         }
         Plain::Bools(items) if items.len() <= limit => {
-            Ok(Value::Bools(Vec::from_slice(alloc, items)?))
+            Value::Bools(Vec::from_slice(alloc, items).expect(rt, "memory"))
         }
         Plain::Segs(lengths) => {
             let segments = Segd::from_lengths_within(alloc, lengths, limit);
-            Ok(Value::Segs(segments.map_err(|_| "no segment list")?))
+            Value::Segs(segments.ok().expect(rt, "no segment list"))
         }
-        _ => Err("too long")?,
+        _ => panic!(rt; "too long"),
     }
 }
 
-fn is(alloc: Global, value: &Value, plain: Plain<'_>) -> Result<bool, Fail> {
-    Ok(*value == made(alloc, plain, ITEM_LIMIT)?)
+fn is(rt: &impl Abort, alloc: Global, value: &Value, plain: Plain<'_>) -> bool {
+    *value == made(rt, alloc, plain, ITEM_LIMIT)
 }
 
 /// What a store of the value under the name comes to, in a word.
-#[tactic(auto, using(cvl_calls::proofs::BlockSteps::outside_may_change, cvl_calls::proofs::BlockSteps::put_outside))]
 fn outcome(
+    rt: &impl Abort,
     alloc: Global,
     memory: &mut Memory,
     text: &[u8],
     plain: Plain<'_>,
-) -> Result<&'static str, Fail>
-    requires outside { memory.old.block ≡ None }
-    ensures stays { memory.new.block ≡ None }
-{
-    let name = name(text)?;
+) -> &'static str {
+    let name = name(rt, text);
     memories_are_lawful(memory);
-    let value = made(alloc, plain, memory.limit())?;
-    Ok(match memory.store(name, value) {
+    let value = made(rt, alloc, plain, memory.limit());
+    assert_may_change(rt, memory);
+    match memory.store(name, value) {
         Ok(()) => "stored",
         Err(StoreFault::NoRoom) => "no room",
         Err(StoreFault::TooManyNames) => "too many names",
         Err(StoreFault::OutOfMemory) => "out of memory",
-    })
+    }
 }
 
 /// Stores values under names, one after the other, and compares what each store comes to.
@@ -74,18 +71,14 @@ fn expect_outcomes(
     alloc: Global,
     memory: &mut Memory,
     stores: &[(&[u8], Plain<'_>, &str)],
-) -> Result<(), Fail>
-    requires outside { memory.old.block ≡ None }
-    ensures stays { memory.new.block ≡ None }
-{
+) {
     for &(text, plain, wanted) in stores {
         assert_eq!(rt;
-            outcome(alloc, memory, text, plain)?,
+            outcome(rt, alloc, memory, text, plain),
             wanted,
             "{text:?} = {plain:?}"
         );
     }
-    Ok(())
 }
 
 fn expect_counts(rt: &impl Abort, memory: &Memory, names: usize, cells: usize) {
@@ -94,47 +87,37 @@ fn expect_counts(rt: &impl Abort, memory: &Memory, names: usize, cells: usize) {
     assert_eq!(rt; memory.cells(), cells);
 }
 
-fn expect_absent(rt: &impl Abort, memory: &Memory, text: &[u8]) -> Result<(), Fail> {
-    assert!(rt; memory.get(&name(text)?).is_none(), "{text:?}");
-    Ok(())
+fn expect_absent(rt: &impl Abort, memory: &Memory, text: &[u8]) {
+    assert!(rt; memory.get(&name(rt, text)).is_none(), "{text:?}");
 }
 
 /// Frees names, one after the other, and compares whether each was there.
-#[tactic(auto, using(cvl_calls::proofs::BlockSteps::outside_may_change, cvl_calls::proofs::BlockSteps::without_outside))]
-fn expect_freed(rt: &impl Abort, memory: &mut Memory, names: &[(&[u8], bool)]) -> Result<(), Fail>
-    requires outside { memory.old.block ≡ None }
-    ensures stays { memory.new.block ≡ None }
-{
+fn expect_freed(rt: &impl Abort, memory: &mut Memory, names: &[(&[u8], bool)]) {
     for &(text, was) in names {
-        assert_eq!(rt; memory.free(&name(text)?), was, "{text:?}");
+        assert_may_change(rt, memory);
+        assert_eq!(rt; memory.free(&name(rt, text)), was, "{text:?}");
     }
-    Ok(())
 }
 
 /// Whether the value that a name has, and the one that its look-up finds, are this one.
 fn stands_for(
+    rt: &impl Abort,
     alloc: Global,
     memory: &Memory,
     entry: (&Name, &Value),
     plain: Plain<'_>,
-) -> Result<bool, Fail> {
-    let looked_up = memory.get(entry.0).ok_or("no value")?;
-    Ok(is(alloc, entry.1, plain)? && is(alloc, looked_up, plain)?)
+) -> bool {
+    let looked_up = memory.get(entry.0).expect(rt, "no value");
+    is(rt, alloc, entry.1, plain) && is(rt, alloc, looked_up, plain)
 }
 
 /// Compares the names and values of a memory with these, one after the other and each by its look-up.
-fn expect_entries(
-    rt: &impl Abort,
-    alloc: Global,
-    memory: &Memory,
-    wanted: &[(&[u8], Plain<'_>)],
-) -> Result<(), Fail> {
+fn expect_entries(rt: &impl Abort, alloc: Global, memory: &Memory, wanted: &[(&[u8], Plain<'_>)]) {
     assert!(rt; memory.len() == wanted.len() && memory.iter().count() == wanted.len());
     for (entry, &(text, plain)) in memory.iter().zip(wanted) {
-        assert!(rt; *entry.0 == name(text)?, "{text:?}");
-        assert!(rt; stands_for(alloc, memory, entry, plain)?, "{text:?}");
+        assert!(rt; *entry.0 == name(rt, text), "{text:?}");
+        assert!(rt; stands_for(rt, alloc, memory, entry, plain), "{text:?}");
     }
-    Ok(())
 }
 
 const NAMES: &[&[u8]] = &[b"a", b"z9_", b"abcdefghijklmnop", b"a123456789_bcdef", b"z"];
@@ -168,11 +151,10 @@ fn reads_lawful_names_alone(rt: HostRuntime) {
 }
 
 #[test]
-fn tells_names_apart(rt: HostRuntime) -> Result<(), Fail> {
-    assert!(rt; name(b"ab")? == name(b"ab")?);
-    assert!(rt; name(b"ab")? != name(b"a")?);
-    assert!(rt; name(b"abcdefghijklmnop")? != name(b"abcdefghijklmnoq")?);
-    Ok(())
+fn tells_names_apart(rt: HostRuntime) {
+    assert!(rt; name(&rt, b"ab") == name(&rt, b"ab"));
+    assert!(rt; name(&rt, b"ab") != name(&rt, b"a"));
+    assert!(rt; name(&rt, b"abcdefghijklmnop") != name(&rt, b"abcdefghijklmnoq"));
 }
 
 /// Values, each with its size and with another value.
@@ -190,20 +172,27 @@ const VALUES: &[(Plain<'_>, usize, Plain<'_>)] = &[
 ];
 
 /// Whether a copy of the first value has the size, and is equal to the first value and not to the other.
-fn is_copied(alloc: Global, plain: Plain<'_>, size: usize, other: Plain<'_>) -> Result<bool, Fail> {
-    let copy = made(alloc, plain, ITEM_LIMIT)?.try_copy()?;
-    Ok(copy.size() == size && is(alloc, &copy, plain)? && !is(alloc, &copy, other)?)
+fn is_copied(
+    rt: &impl Abort,
+    alloc: Global,
+    plain: Plain<'_>,
+    size: usize,
+    other: Plain<'_>,
+) -> bool {
+    let copy = made(rt, alloc, plain, ITEM_LIMIT)
+        .try_copy()
+        .expect(rt, "memory");
+    copy.size() == size && is(rt, alloc, &copy, plain) && !is(rt, alloc, &copy, other)
 }
 
 #[test]
-fn copies_values(rt: HostRuntime) -> Result<(), Fail> {
+fn copies_values(rt: HostRuntime) {
     for &(plain, size, other) in VALUES {
         assert!(rt;
-            is_copied(rt.alloc(), plain, size, other)?,
+            is_copied(&rt, rt.alloc(), plain, size, other),
             "{plain:?} and {other:?}"
         );
     }
-    Ok(())
 }
 
 /// What a memory of some room holds after some stores.
@@ -283,40 +272,37 @@ const OF_SEGMENTS: Stores<'_> = Stores {
     entries: &[(b"s", Plain::Segs(&[2, 0, 3])), (b"t", Plain::Ints(&[7]))],
 };
 
-fn expect_held(
-    rt: &impl Abort,
-    alloc: Global,
-    memory: &mut Memory,
-    case: &Stores<'_>,
-) -> Result<(), Fail>
-    requires outside { memory.old.block ≡ None }
-{
+fn expect_held(rt: &impl Abort, alloc: Global, memory: &mut Memory, case: &Stores<'_>) {
     expect_counts(rt, memory, 0, 0);
-    expect_outcomes(rt, alloc, memory, case.stores)?;
+    expect_outcomes(rt, alloc, memory, case.stores);
     expect_counts(rt, memory, case.entries.len(), case.cells);
     expect_entries(rt, alloc, memory, case.entries)
 }
 
-fn expect_stores(rt: &impl Abort, alloc: Global, case: &Stores<'_>) -> Result<(), Fail> {
+fn expect_stores(rt: &impl Abort, alloc: Global, case: &Stores<'_>) {
     assert!(rt; 1 <= case.room && case.room <= ROOM_LIMIT);
-    let mut memory = Memory::new(alloc, case.room)?;
+    let mut memory = Memory::new(alloc, case.room).expect(rt, "memory");
     expect_held(rt, alloc, &mut memory, case)
 }
 
 #[test]
-fn stores_values(rt: HostRuntime) -> Result<(), Fail> {
-    expect_stores(&rt, rt.alloc(), &IN_A_SMALL_ROOM)?;
-    expect_stores(&rt, rt.alloc(), &IN_NO_ORDER)?;
-    expect_stores(&rt, rt.alloc(), &OF_OTHER_TYPES)?;
+fn stores_values(rt: HostRuntime) {
+    expect_stores(&rt, rt.alloc(), &IN_A_SMALL_ROOM);
+    expect_stores(&rt, rt.alloc(), &IN_NO_ORDER);
+    expect_stores(&rt, rt.alloc(), &OF_OTHER_TYPES);
     expect_stores(&rt, rt.alloc(), &OF_SEGMENTS)
 }
 
-#[test]
-fn knows_its_room_its_limit_and_no_strange_name(rt: HostRuntime) -> Result<(), Fail> {
-    let memory = Memory::new(rt.alloc(), 4)?;
+fn expect_limits(rt: &impl Abort, memory: &Memory) {
     assert_eq!(rt; memory.room(), 4);
     assert_eq!(rt; memory.limit(), 1_048_576);
-    expect_absent(&rt, &memory, b"e")
+    expect_absent(rt, memory, b"e")
+}
+
+#[test]
+fn knows_its_room_its_limit_and_no_strange_name(rt: HostRuntime) {
+    let memory = Memory::new(rt.alloc(), 4).expect(&rt, "memory");
+    expect_limits(&rt, &memory);
 }
 
 const BEFORE_FREEING: &[(&[u8], Plain<'_>, &str)] = &[
@@ -336,51 +322,39 @@ const AFTER_FREEING: &[(&[u8], Plain<'_>)] = &[
     (b"b", Plain::Segs(&[0, 2])),
 ];
 
-fn expect_freeing(rt: &impl Abort, alloc: Global, memory: &mut Memory) -> Result<(), Fail>
-    requires outside { memory.old.block ≡ None }
-{
-    expect_outcomes(rt, alloc, memory, BEFORE_FREEING)?;
-    expect_freed(rt, memory, FREED)?;
+fn expect_freeing(rt: &impl Abort, alloc: Global, memory: &mut Memory) {
+    expect_outcomes(rt, alloc, memory, BEFORE_FREEING);
+    expect_freed(rt, memory, FREED);
     expect_counts(rt, memory, 2, 4);
-    expect_absent(rt, memory, b"b")?;
-    expect_outcomes(rt, alloc, memory, AGAIN)?;
+    expect_absent(rt, memory, b"b");
+    expect_outcomes(rt, alloc, memory, AGAIN);
     expect_counts(rt, memory, 3, 6);
     expect_entries(rt, alloc, memory, AFTER_FREEING)
 }
 
 #[test]
-fn frees_a_name_and_closes_up(rt: HostRuntime) -> Result<(), Fail> {
-    let mut memory = Memory::new(rt.alloc(), 6)?;
+fn frees_a_name_and_closes_up(rt: HostRuntime) {
+    let mut memory = Memory::new(rt.alloc(), 6).expect(&rt, "memory");
     expect_freeing(&rt, rt.alloc(), &mut memory)
 }
 
 /// Stores one integer under each of the names n0, n1 and so on, as many as there may be.
-fn fill(rt: &impl Abort, alloc: Global, memory: &mut Memory) -> Result<(), Fail>
-    requires outside { memory.old.block ≡ None }
-    ensures stays { memory.new.block ≡ None }
-{
+fn fill(rt: &impl Abort, alloc: Global, memory: &mut Memory) {
     for number in 0..NAME_LIMIT {
-        let text = format!(in alloc; "n{number}")?;
+        let text = format!(in alloc; "n{number}").expect(rt, "memory");
         let store = [(text.as_bytes(), Plain::Ints(&[1]), "stored")];
-        expect_outcomes(rt, alloc, memory, &store)?;
+        expect_outcomes(rt, alloc, memory, &store);
     }
-    Ok(())
 }
 
 /// Compares the names of a full memory, after n0 was freed, with n1, n2 and so on, and the last with `last`.
-fn expect_numbered_names(
-    rt: &impl Abort,
-    alloc: Global,
-    memory: &Memory,
-    last: &[u8],
-) -> Result<(), Fail> {
+fn expect_numbered_names(rt: &impl Abort, alloc: Global, memory: &Memory, last: &[u8]) {
     for ((found, _), number) in memory.iter().zip(1..NAME_LIMIT) {
-        let text = format!(in alloc; "n{number}")?;
-        assert!(rt; *found == name(text.as_bytes())?, "{number}");
+        let text = format!(in alloc; "n{number}").expect(rt, "memory");
+        assert!(rt; *found == name(rt, text.as_bytes()), "{number}");
     }
-    let found = memory.iter().last().ok_or("no last")?;
-    assert!(rt; *found.0 == name(last)?);
-    Ok(())
+    let found = memory.iter().last().expect(rt, "no last");
+    assert!(rt; *found.0 == name(rt, last));
 }
 
 const INTO_THE_GAP: &[(&[u8], Plain<'_>, &str)] = &[(b"m", Plain::Ints(&[1]), "stored")];
@@ -392,51 +366,43 @@ const INTO_A_FULL_MEMORY: &[(&[u8], Plain<'_>, &str)] = &[
     (b"m", Plain::Ints(&[1]), "too many names"),
 ];
 
-fn expect_full(rt: &impl Abort, alloc: Global, memory: &mut Memory) -> Result<(), Fail>
-    requires outside { memory.old.block ≡ None }
-{
-    fill(rt, alloc, memory)?;
-    expect_outcomes(rt, alloc, memory, INTO_A_FULL_MEMORY)?;
+fn expect_full(rt: &impl Abort, alloc: Global, memory: &mut Memory) {
+    fill(rt, alloc, memory);
+    expect_outcomes(rt, alloc, memory, INTO_A_FULL_MEMORY);
     expect_counts(rt, memory, NAME_LIMIT, NAME_LIMIT - 1);
-    expect_freed(rt, memory, &[(b"n0", true)])?;
-    expect_outcomes(rt, alloc, memory, INTO_THE_GAP)?;
+    expect_freed(rt, memory, &[(b"n0", true)]);
+    expect_outcomes(rt, alloc, memory, INTO_THE_GAP);
     expect_counts(rt, memory, NAME_LIMIT, NAME_LIMIT);
     expect_numbered_names(rt, alloc, memory, b"m")
 }
 
 #[test]
-fn takes_so_many_names_and_no_more(rt: HostRuntime) -> Result<(), Fail> {
-    let mut memory = Memory::new(rt.alloc(), NAME_LIMIT as u64)?;
+fn takes_so_many_names_and_no_more(rt: HostRuntime) {
+    let mut memory = Memory::new(rt.alloc(), NAME_LIMIT as u64).expect(&rt, "memory");
     expect_full(&rt, rt.alloc(), &mut memory)
 }
 
 /// Puts a value at a name, and compares what stood there before.
-#[tactic(auto, using(cvl_calls::proofs::BlockSteps::outside_may_change, cvl_calls::proofs::BlockSteps::put_outside))]
 fn expect_replaced(
     rt: &impl Abort,
     alloc: Global,
     memory: &mut Memory,
     plain: Plain<'_>,
     wanted: Option<Plain<'_>>,
-) -> Result<(), Fail>
-    requires outside { memory.old.block ≡ None }
-    ensures stays { memory.new.block ≡ None }
-{
+) {
     memories_are_lawful(memory);
-    let value = made(alloc, plain, memory.limit())?;
-    let replaced = memory.replace(name(b"a")?, value);
-    let before = replaced.map_err(|_| "refused")?;
+    let value = made(rt, alloc, plain, memory.limit());
+    assert_may_change(rt, memory);
+    let replaced = memory.replace(name(rt, b"a"), value);
+    let before = replaced.ok().expect(rt, "refused");
     match (before, wanted) {
-        (Some(value), Some(plain)) => assert!(rt; is(alloc, &value, plain)?),
+        (Some(value), Some(plain)) => assert!(rt; is(rt, alloc, &value, plain)),
         (None, None) => {}
-        _ => Err("not what stood before")?,
+        _ => panic!(rt; "not what stood before"),
     }
-    Ok(())
 }
 
-#[test]
-fn hands_back_what_stood_before(rt: HostRuntime) -> Result<(), Fail> {
-    let mut memory = Memory::new(rt.alloc(), 4)?;
+fn expect_each_replaced(rt: &impl Abort, alloc: Global, memory: &mut Memory) {
     let values = [
         Plain::Ints(&[1, 2]),
         Plain::Bools(&[true]),
@@ -445,9 +411,14 @@ fn hands_back_what_stood_before(rt: HostRuntime) -> Result<(), Fail> {
     ];
     let mut before = None;
     for plain in values {
-        expect_replaced(&rt, rt.alloc(), &mut memory, plain, before)?;
+        expect_replaced(rt, alloc, memory, plain, before);
         before = Some(plain);
     }
-    expect_counts(&rt, &memory, 1, 0);
-    Ok(())
+    expect_counts(rt, memory, 1, 0);
+}
+
+#[test]
+fn hands_back_what_stood_before(rt: HostRuntime) {
+    let mut memory = Memory::new(rt.alloc(), 4).expect(&rt, "memory");
+    expect_each_replaced(&rt, rt.alloc(), &mut memory);
 }

@@ -1,25 +1,24 @@
 //! Calls whose result is written over an operand, since that has many items and lies at the target, beside calls that look alike.
 
-ghost use Rattle.std.specs.Prelude.{◌≡◌, None};
-
-use crate::refused::may_change;
+use crate::changing::assert_may_change;
 use cvl_calls::{Call, Reply, Spare, step_metered, step_with};
 use scan_kernels::{Meter, Sequential};
 use std::alloc::{Alloc, Global};
 use std::process::Abort;
-use std::test::Fail;
 use vector_memory::Memory;
 
 const ROOM: u64 = 1_000_000;
 
 /// The reply to a line, by a step with a meter.
-#[tactic(auto, using(cvl_calls::proofs::BlockSteps::outside_may_change))]
-fn reply(alloc: Global, meter: &mut Meter, memory: &mut Memory, line: &[u8]) -> Result<Reply, Fail>
-    requires outside { memory.old.block ≡ None }
-    ensures stays { memory.new.block ≡ None }
-{
-    let call = Call::read(alloc, line)?;
-    Ok(step_metered(&Sequential, alloc, meter, memory, &call)?)
+fn reply<R: Abort + Alloc<A = Global>>(
+    rt: &R,
+    meter: &mut Meter,
+    memory: &mut Memory,
+    line: &[u8],
+) -> Reply {
+    let call = Call::read(rt.alloc(), line).expect(rt, "a call");
+    assert_may_change(rt, memory);
+    step_metered(&Sequential, rt.alloc(), meter, memory, &call).expect(rt, "memory")
 }
 
 /// Asserts that each line is replied to so.
@@ -28,16 +27,13 @@ fn are_replied<R: Abort + Alloc<A = Global>>(
     meter: &mut Meter,
     memory: &mut Memory,
     lines: &[(&[u8], &[u8])],
-) -> Result<(), Fail>
-    requires outside { memory.old.block ≡ None }
-    ensures stays { memory.new.block ≡ None }
-{
+) {
     for (line, wanted) in lines {
         let mut text = Vec::new(rt.alloc());
-        reply(rt.alloc(), meter, memory, line)?.write(&mut text)?;
+        let reply = reply(rt, meter, memory, line);
+        reply.write(&mut text).expect(rt, "memory");
         assert!(rt; text.as_slice() == *wanted, "{line:?}");
     }
-    Ok(())
 }
 
 /// `a` is 0, 1 and so on, `b` is 7s, `z` is 0s: 20,000 each.
@@ -66,26 +62,30 @@ const WRITTEN: [(&[u8], &[u8]); 15] = [
     (b"ext_vuz b 19999", b"int -159992"),
 ];
 
+/// Asserts that the calls of the opening and those behind it are replied to so, with so many kernel runs in all.
+fn runs_kernels<R: Abort + Alloc<A = Global>>(
+    rt: &R,
+    meter: &mut Meter,
+    memory: &mut Memory,
+    runs: u64,
+) {
+    are_replied(rt, meter, memory, &OPENING);
+    are_replied(rt, meter, memory, &WRITTEN);
+    assert_eq!(rt; meter.runs(), runs);
+}
+
 #[test]
-fn writes_over_an_operand(rt: HostRuntime) -> Result<(), Fail> {
-    let mut memory = Memory::new(rt.alloc(), ROOM)?;
-    let mut meter = Meter::new();
-    are_replied(&rt, &mut meter, &mut memory, &OPENING)?;
-    are_replied(&rt, &mut meter, &mut memory, &WRITTEN)?;
-    assert_eq!(rt; meter.runs(), 9);
+fn writes_over_an_operand(rt: HostRuntime) {
+    let mut memory = Memory::new(rt.alloc(), ROOM).expect(&rt, "memory");
+    runs_kernels(&rt, &mut Meter::new(), &mut memory, 9);
     assert!(rt; memory.cells() == 60_000);
-    Ok(())
 }
 
 /// By chunks of 1,000 items there is no call that is written over an operand, and each reply is the same.
 #[test]
-fn replies_alike_by_chunks(rt: HostRuntime) -> Result<(), Fail> {
-    let mut memory = Memory::new(rt.alloc(), ROOM)?;
-    let mut meter = Meter::with_chunk(1_000);
-    are_replied(&rt, &mut meter, &mut memory, &OPENING)?;
-    are_replied(&rt, &mut meter, &mut memory, &WRITTEN)?;
-    assert_eq!(rt; meter.runs(), 9);
-    Ok(())
+fn replies_alike_by_chunks(rt: HostRuntime) {
+    let mut memory = Memory::new(rt.alloc(), ROOM).expect(&rt, "memory");
+    runs_kernels(&rt, &mut Meter::with_chunk(1_000), &mut memory, 9);
 }
 
 /// A call with a fault leaves the operand as it was.
@@ -100,65 +100,70 @@ const FAULTY: [(&[u8], &[u8]); 8] = [
     (b"add_ruz a", b"int 199990000"),
 ];
 
+fn are_kept<R: Abort + Alloc<A = Global>>(rt: &R, meter: &mut Meter, memory: &mut Memory) {
+    are_replied(rt, meter, memory, &OPENING);
+    are_replied(rt, meter, memory, &FAULTY);
+}
+
 #[test]
-fn keeps_the_operand_of_a_faulty_call(rt: HostRuntime) -> Result<(), Fail> {
-    let mut memory = Memory::new(rt.alloc(), ROOM)?;
-    let mut meter = Meter::new();
-    are_replied(&rt, &mut meter, &mut memory, &OPENING)?;
-    are_replied(&rt, &mut meter, &mut memory, &FAULTY)
+fn keeps_the_operand_of_a_faulty_call(rt: HostRuntime) {
+    let mut memory = Memory::new(rt.alloc(), ROOM).expect(&rt, "memory");
+    are_kept(&rt, &mut Meter::new(), &mut memory);
 }
 
 /// The names of a memory, in their order.
-fn names(alloc: Global, memory: &Memory) -> Result<Vec<u8>, Fail> {
-    let mut text = Vec::new(alloc);
+fn names<R: Abort + Alloc<A = Global>>(rt: &R, memory: &Memory) -> Vec<u8> {
+    let mut text = Vec::new(rt.alloc());
     for (name, _) in memory.iter() {
-        text.extend_from_slice(name.text())?;
-        text.push(b' ')?;
+        text.extend_from_slice(name.text()).expect(rt, "memory");
+        text.push(b' ').expect(rt, "memory");
     }
-    Ok(text)
+    text
+}
+
+fn are_in_order<R: Abort + Alloc<A = Global>>(rt: &R, meter: &mut Meter, memory: &mut Memory) {
+    are_replied(rt, meter, memory, &OPENING);
+    reply(rt, meter, memory, b"b = max_wuz b z");
+    assert!(rt; names(rt, memory).as_slice() == b"a b z ".as_slice());
 }
 
 /// The names keep their order.
 #[test]
-fn keeps_the_order_of_names(rt: HostRuntime) -> Result<(), Fail> {
-    let mut memory = Memory::new(rt.alloc(), ROOM)?;
-    let mut meter = Meter::new();
-    are_replied(&rt, &mut meter, &mut memory, &OPENING)?;
-    reply(rt.alloc(), &mut meter, &mut memory, b"b = max_wuz b z")?;
-    assert!(rt; names(rt.alloc(), &memory)?.as_slice() == b"a b z ".as_slice());
-    Ok(())
+fn keeps_the_order_of_names(rt: HostRuntime) {
+    let mut memory = Memory::new(rt.alloc(), ROOM).expect(&rt, "memory");
+    are_in_order(&rt, &mut Meter::new(), &mut memory);
+}
+
+/// Runs a line, with vectors that were kept.
+fn runs_with<R: Abort + Alloc<A = Global>>(
+    rt: &R,
+    meter: &mut Meter,
+    spare: &mut Spare,
+    memory: &mut Memory,
+    line: &[u8],
+) {
+    let call = Call::read(rt.alloc(), line).expect(rt, "a call");
+    assert_may_change(rt, memory);
+    step_with(&Sequential, rt.alloc(), meter, spare, memory, &call).expect(rt, "memory");
+}
+
+fn keeps_vectors<R: Abort + Alloc<A = Global>>(
+    rt: &R,
+    meter: &mut Meter,
+    spare: &mut Spare,
+    memory: &mut Memory,
+) {
+    are_replied(rt, meter, memory, &OPENING);
+    runs_with(rt, meter, spare, memory, b"a = add_wuz a b");
+    assert_eq!(rt; spare.bytes(), 0);
+    runs_with(rt, meter, spare, memory, b"a = add_wuz b b");
+    assert_eq!(rt; spare.bytes(), 160_000);
 }
 
 /// What was kept for the next results stays kept: a result over an operand takes none of it.
 #[test]
-#[tactic(auto, using(cvl_calls::proofs::BlockSteps::outside_may_change))]
-fn takes_no_kept_vector(rt: HostRuntime) -> Result<(), Fail> {
-    let mut memory = Memory::new(rt.alloc(), ROOM)?;
-    let mut meter = Meter::new();
-    are_replied(&rt, &mut meter, &mut memory, &OPENING)?;
+fn takes_no_kept_vector(rt: HostRuntime) {
+    let mut memory = Memory::new(rt.alloc(), ROOM).expect(&rt, "memory");
     let mut spare = Spare::new(rt.alloc());
-    let call = Call::read(rt.alloc(), b"a = add_wuz a b")?;
-    step_with(
-        &Sequential,
-        rt.alloc(),
-        &mut meter,
-        &mut spare,
-        &mut memory,
-        &call,
-    )?;
-    assert_eq!(rt; spare.bytes(), 0);
-    let call = Call::read(rt.alloc(), b"a = add_wuz b b")?;
-    if !may_change(&memory) {
-        Err("in a block")?;
-    }
-    step_with(
-        &Sequential,
-        rt.alloc(),
-        &mut meter,
-        &mut spare,
-        &mut memory,
-        &call,
-    )?;
-    assert_eq!(rt; spare.bytes(), 160_000);
-    Ok(())
+    keeps_vectors(&rt, &mut Meter::new(), &mut spare, &mut memory);
 }

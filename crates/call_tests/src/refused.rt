@@ -3,9 +3,6 @@
 //!
 //! A refused growth comes to a want of memory, what was lent stands as it did, and the same call made again goes well.
 
-ghost use Rattle.std.specs.Prelude.{◌≡◌, None, IfOk, IsTrue};
-ghost use Rattle.vector_memory.specs.States.{MayChange};
-
 mod books;
 mod calls;
 mod machines;
@@ -13,13 +10,12 @@ mod parts;
 mod texts;
 mod values;
 
+use crate::changing::assert_may_change;
 use cvl_calls::step;
 use cvl_text::{Call, Reply, write_value};
 use scan_kernels::Sequential;
 use std::alloc::{Alloc, Global};
-use std::io;
 use std::process::Abort;
-use std::test::Fail;
 use vector_memory::{Memory, Name, Value};
 
 /// The room of each memory.
@@ -145,72 +141,58 @@ x = pkl_leb b s"
 }
 
 /// The growths of what comes next are counted, and one may be refused.
-fn begin<R: Print>(rt: &R) -> io::Result<()> {
-    println!(rt; "begin")
+fn begin<R: Abort + Print>(rt: &R) {
+    println!(rt; "begin").expect(rt, "output");
 }
 
 /// And those of what comes next are not.
-fn end<R: Print>(rt: &R) -> io::Result<()> {
-    println!(rt; "end")
-}
-
-/// Whether the memory may change.
-pub(crate) fn may_change(memory: &Memory) -> bool
-    ensures { IsTrue result → MayChange memory.now }
-{
-    !memory.in_block() || memory.changes_left() > 0
+fn end<R: Abort + Print>(rt: &R) {
+    println!(rt; "end").expect(rt, "output");
 }
 
 /// The text of a reply.
-fn text_of(alloc: Global, reply: &Reply) -> Result<Vec<u8>, Fail> {
-    let mut text = Vec::new(alloc);
-    reply.write(&mut text)?;
-    Ok(text)
+fn text_of<R: Abort + Alloc<A = Global>>(rt: &R, reply: &Reply) -> Vec<u8> {
+    let mut text = Vec::new(rt.alloc());
+    reply.write(&mut text).expect(rt, "memory");
+    text
 }
 
 /// Puts the text of a name and its value behind another.
-fn write_entry(name: &Name, value: &Value, text: &mut Vec<u8>) -> Result<(), Fail> {
-    text.extend_from_slice(name.text())?;
-    text.push(b' ')?;
-    write_value(value, text)?;
-    text.push(b'\n')?;
-    Ok(())
+fn write_entry(rt: &impl Abort, name: &Name, value: &Value, text: &mut Vec<u8>) {
+    text.extend_from_slice(name.text()).expect(rt, "memory");
+    text.push(b' ').expect(rt, "memory");
+    write_value(value, text).expect(rt, "memory");
+    text.push(b'\n').expect(rt, "memory");
 }
 
 /// All that a memory holds, as text: a line for each name, in their order.
-fn memory_text(alloc: Global, memory: &Memory) -> Result<Vec<u8>, Fail> {
-    let mut text = Vec::new(alloc);
+fn memory_text<R: Abort + Alloc<A = Global>>(rt: &R, memory: &Memory) -> Vec<u8> {
+    let mut text = Vec::new(rt.alloc());
     for (name, value) in memory.iter() {
-        write_entry(name, value, &mut text)?;
+        write_entry(rt, name, value, &mut text);
     }
-    Ok(text)
+    text
 }
 
 /// Asserts that a memory holds what this text says.
-fn holds<R: Abort + Alloc<A = Global>>(rt: &R, memory: &Memory, text: &[u8]) -> Result<(), Fail> {
-    let found = memory_text(rt.alloc(), memory)?;
+fn holds<R: Abort + Alloc<A = Global>>(rt: &R, memory: &Memory, text: &[u8]) {
+    let found = memory_text(rt, memory);
     assert!(rt; found.as_slice() == text);
-    Ok(())
 }
 
 /// What a memory that is refused nothing replies to a line, as text.
-#[tactic(auto, using(cvl_calls::proofs::BlockSteps::outside_may_change))]
-fn replied(alloc: Global, memory: &mut Memory, line: &str) -> Result<Vec<u8>, Fail>
-    requires outside { memory.old.block ≡ None }
-    ensures stays { memory.new.block ≡ None }
-{
-    let call = Call::read(alloc, line.as_bytes())?;
-    let reply = step(&Sequential, alloc, memory, &call)?;
-    text_of(alloc, &reply)
+fn replied<R: Abort + Alloc<A = Global>>(rt: &R, memory: &mut Memory, line: &str) -> Vec<u8> {
+    let call = Call::read(rt.alloc(), line.as_bytes()).expect(rt, "a call");
+    assert_may_change(rt, memory);
+    let reply = step(&Sequential, rt.alloc(), memory, &call).expect(rt, "memory");
+    text_of(rt, &reply)
 }
 
 /// A memory that has what the opening sets.
-fn opened(alloc: Global) -> Result<Memory, Fail>
-    ensures { IfOk result (λ memory. memory.block ≡ None) }
-{
-    let mut memory = Memory::new(alloc, ROOM)?;
+fn opened<R: Abort + Alloc<A = Global>>(rt: &R) -> Memory {
+    let mut memory = Memory::new(rt.alloc(), ROOM).expect(rt, "memory");
     for line in opening().lines() {
-        replied(alloc, &mut memory, line)?;
+        replied(rt, &mut memory, line);
     }
-    Ok(memory)
+    memory
 }

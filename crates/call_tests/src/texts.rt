@@ -2,12 +2,9 @@ mod call_words;
 mod lines;
 mod replies;
 
-use std::test::Fail;
+use std::process::Abort;
 use vector_memory::Name;
 
-fn name(text: &[u8]) -> Result<Name, Fail> {
-    match Name::read(text) {
-        Some(name) => Ok(name),
-        None => Err(Fail::new("a name")),
-    }
+fn name(rt: &impl Abort, text: &[u8]) -> Name {
+    Name::read(text).expect(rt, "a name")
 }

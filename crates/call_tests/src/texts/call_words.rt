@@ -3,7 +3,6 @@
 use super::name;
 use cvl_text::{Call, Kind, OneWord, ScanZ, ThreeWord, TwoWord, Word, call_word, reads, target};
 use std::alloc::Global;
-use std::test::Fail;
 use vector_memory::Name;
 
 /// Lines that write `d`, and how many of the names `a`, `b`, `c` and `e` they read.
@@ -130,18 +129,22 @@ fn first(names: [Name; 4], count: usize) -> [Option<Name>; 4] {
 }
 
 #[test]
-fn reads_every_word(rt: HostRuntime) -> Result<(), Fail> {
-    let names = [name(b"a")?, name(b"b")?, name(b"c")?, name(b"e")?];
-    let to = Some(name(b"d")?);
+fn reads_every_word(rt: HostRuntime) {
+    let names = [
+        name(&rt, b"a"),
+        name(&rt, b"b"),
+        name(&rt, b"c"),
+        name(&rt, b"e"),
+    ];
+    let to = name(&rt, b"d");
     for (line, count) in &WRITING {
-        assert!(rt; is_read(rt.alloc(), line, first(names, *count), to));
+        assert!(rt; is_read(rt.alloc(), line, first(names, *count), Some(to)));
     }
     for line in &ASKING {
         assert!(rt; is_read(rt.alloc(), line, first(names, 1), None));
     }
     let a = Some(names[0]);
     assert!(rt; is_read(rt.alloc(), b"fre_fov a", first(names, 1), a));
-    Ok(())
 }
 
 /// Lines, and the words of their calls.

@@ -2,7 +2,6 @@
 
 use cvl_text::{Fault, Reply, write_value};
 use segment_desc::Segd;
-use std::test::Fail;
 use vector_memory::Value;
 
 static FAULTS: [(Fault, &[u8]); 10] = [
@@ -44,16 +43,15 @@ fn writes_replies(rt: HostRuntime) {
 }
 
 #[test]
-fn writes_values(rt: HostRuntime) -> Result<(), Fail> {
-    let integers = Vec::from_slice(rt.alloc(), &[0, -7])?;
+fn writes_values(rt: HostRuntime) {
+    let integers = Vec::from_slice(rt.alloc(), &[0, -7]).expect(&rt, "memory");
     assert!(rt; is_text_of_value(&rt, Value::Ints(integers), b"> z 0 -7"));
-    let truths = Vec::from_slice(rt.alloc(), &[false, true])?;
+    let truths = Vec::from_slice(rt.alloc(), &[false, true]).expect(&rt, "memory");
     assert!(rt; is_text_of_value(&rt, Value::Bools(truths), b"> b F T"));
-    let segments = Segd::from_lengths(rt.alloc(), &[2, 0, 3])?;
+    let segments = Segd::from_lengths(rt.alloc(), &[2, 0, 3]).expect(&rt, "a segment list");
     assert!(rt; is_text_of_value(&rt, Value::Segs(segments), b"> s 2 0 3"));
-    let empty = Segd::from_lengths(rt.alloc(), &[])?;
+    let empty = Segd::from_lengths(rt.alloc(), &[]).expect(&rt, "a segment list");
     assert!(rt; is_text_of_value(&rt, Value::Segs(empty), b"> s"));
-    let integers = Vec::from_slice(rt.alloc(), &[1])?;
+    let integers = Vec::from_slice(rt.alloc(), &[1]).expect(&rt, "memory");
     assert!(rt; is_text_of(&rt, Reply::Vector(Value::Ints(integers)), b"z 1"));
-    Ok(())
 }
