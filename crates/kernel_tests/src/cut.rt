@@ -2,9 +2,9 @@
 
 use segment_desc::Segd;
 use std::alloc::Global;
-use std::test::Fail;
+use std::process::Abort;
 
 /// The segment list of these lengths.
-pub(crate) fn cut(alloc: Global, lengths: &[i64]) -> Result<Segd, Fail> {
-    Ok(Segd::from_lengths(alloc, lengths).map_err(|_| "no segments")?)
+pub(crate) fn cut(rt: &impl Abort, alloc: Global, lengths: &[i64]) -> Segd {
+    Segd::from_lengths(alloc, lengths).expect(rt, "no segments")
 }

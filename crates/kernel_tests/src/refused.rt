@@ -9,13 +9,11 @@ mod wholes;
 
 use scan_kernels::Meter;
 use segment_desc::OutOfMemory;
-use std::io;
 use std::process::Abort;
-use std::test::Fail;
 
 /// The growths of what comes next are counted, and one may be refused.
-fn begin<R: Print>(rt: &R) -> io::Result<()> {
-    println!(rt; "begin")
+fn begin<R: Abort + Print>(rt: &R) {
+    println!(rt; "begin").expect(rt, "output");
 }
 
 /// And those of what comes next are not. Asserts that a kernel made these items and counted itself, or neither.
@@ -24,13 +22,12 @@ fn end<T: Copy + PartialEq, R: Abort + Print>(
     meter: &mut Meter,
     made: Result<Vec<T>, OutOfMemory>,
     wanted: &[T],
-) -> Result<(), Fail> {
-    println!(rt; "end")?;
+) {
+    println!(rt; "end").expect(rt, "output");
     let runs = meter.runs();
     *meter = Meter::new();
     match made {
         Ok(made) => assert!(rt; made.as_slice() == wanted && runs == 1),
         Err(OutOfMemory) => assert!(rt; runs == 0),
     }
-    Ok(())
 }

@@ -12,23 +12,22 @@ use scan_kernels::{Execution, JoinedKernel, Meter, Z2, divisors_ok, run_joined};
 use segment_desc::Segd;
 use std::alloc::Global;
 use std::process::Abort;
-use std::test::Fail;
 
 /// Whether the kernel gives these results of the parts, in one run.
-fn gives<P, K: JoinedKernel<P>>(
-    execution: &impl Execution,
+fn gives<P, K: JoinedKernel<P>, R: Abort + Execution>(
+    rt: &R,
     alloc: Global,
     kernel: K,
     parts: &[P],
     wanted: &[&[K::Item]],
-) -> Result<bool, Fail>
+) -> bool
 where
     K::Item: PartialEq,
     requires { All (K.Takes kernel) parts.now }
 {
     let mut meter = Meter::new();
-    let made = run_joined(execution, alloc, &mut meter, kernel, parts).map_err(|_| "refused")?;
-    Ok(are_parts(&made, wanted) && meter.runs() == 1)
+    let made = run_joined(rt, alloc, &mut meter, kernel, parts).expect(rt, "memory");
+    are_parts(&made, wanted) && meter.runs() == 1
 }
 
 /// Whether the results of the parts are these.

@@ -16,7 +16,7 @@ fn runs_with_no_runtime(rt: HostRuntime) {
         &[10, 2, 3],
     );
     assert!(rt; is_made(made, &[-9i64, 18, 0]));
-    assert_eq!(rt; meter.runs(), 1);
-    assert_eq!(rt; meter.chunk(), 2);
-    assert_eq!(rt; Meter::new().chunk(), 4_096);
+    assert!(rt; meter.runs() == 1);
+    assert!(rt; meter.chunk() == 2);
+    assert!(rt; Meter::new().chunk() == 4_096);
 }

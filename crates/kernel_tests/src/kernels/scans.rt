@@ -5,7 +5,6 @@ use crate::made::is_made;
 use scan_kernels::{Execution, Meter, ScanB, ScanZ, reduce_b, reduce_z, scan_b, scan_z};
 use std::alloc::Global;
 use std::process::Abort;
-use std::test::Fail;
 use std::thread::Threads;
 
 /// The scan, where the lengths add up to the items and one run was counted.
@@ -15,13 +14,13 @@ fn scanned_z<R: Abort + Threads + Execution<Shared = R> + Sync>(
     op: ScanZ,
     items: &[i64],
     lengths: &[i64],
-) -> Result<Vec<i64>, Fail> {
-    let segments = cut(alloc, lengths)?;
+) -> Vec<i64> {
+    let segments = cut(rt, alloc, lengths);
     assert!(rt; segments.total() == items.len());
     let mut meter = Meter::new();
     let made = scan_z(rt, alloc, &mut meter, op, items, &segments);
-    assert_eq!(rt; meter.runs(), 1);
-    Ok(made.map_err(|_| "refused")?)
+    assert!(rt; meter.runs() == 1);
+    made.expect(rt, "memory")
 }
 
 /// The reductions, where the lengths add up to the items and one run was counted.
@@ -31,51 +30,46 @@ fn reduced_z<R: Abort + Threads + Execution<Shared = R> + Sync>(
     op: ScanZ,
     items: &[i64],
     lengths: &[i64],
-) -> Result<Vec<i64>, Fail> {
-    let segments = cut(alloc, lengths)?;
+) -> Vec<i64> {
+    let segments = cut(rt, alloc, lengths);
     assert!(rt; segments.total() == items.len());
     let mut meter = Meter::new();
     let made = reduce_z(rt, alloc, &mut meter, op, items, &segments);
-    assert_eq!(rt; meter.runs(), 1);
-    Ok(made.map_err(|_| "refused")?)
+    assert!(rt; meter.runs() == 1);
+    made.expect(rt, "memory")
 }
 
 #[test]
-fn scans_each_segment(rt: HostRuntime) -> Result<(), Fail> {
+fn scans_each_segment(rt: HostRuntime) {
     let items = [1i64, 2, 3, 4, 5];
-    assert_eq!(rt;
-        scanned_z(&rt, rt.alloc(), ScanZ::Add, &items, &[3, 0, 0, 2])?.as_slice(),
-        [0i64, 1, 3, 0, 4].as_slice()
+    assert!(rt;
+        scanned_z(&rt, rt.alloc(), ScanZ::Add, &items, &[3, 0, 0, 2]).as_slice()
+            == [0i64, 1, 3, 0, 4].as_slice()
     );
     let least = i64::MIN;
-    assert_eq!(rt;
-        scanned_z(&rt, rt.alloc(), ScanZ::Max, &[4, 2, 9, 1], &[1, 3])?.as_slice(),
-        [least, least, 2, 9].as_slice()
+    assert!(rt;
+        scanned_z(&rt, rt.alloc(), ScanZ::Max, &[4, 2, 9, 1], &[1, 3]).as_slice()
+            == [least, least, 2, 9].as_slice()
     );
-    assert_eq!(rt;
-        scanned_z(&rt, rt.alloc(), ScanZ::Add, &[], &[0, 0])?.len(),
-        0
-    );
-    Ok(())
+    assert!(rt; scanned_z(&rt, rt.alloc(), ScanZ::Add, &[], &[0, 0]).len() == 0);
 }
 
 #[test]
-fn reduces_each_segment(rt: HostRuntime) -> Result<(), Fail> {
+fn reduces_each_segment(rt: HostRuntime) {
     let items = [1i64, 2, 3, 4, 5];
-    assert_eq!(rt;
-        reduced_z(&rt, rt.alloc(), ScanZ::Mul, &items, &[3, 0, 0, 2])?.as_slice(),
-        [6i64, 1, 1, 20].as_slice()
+    assert!(rt;
+        reduced_z(&rt, rt.alloc(), ScanZ::Mul, &items, &[3, 0, 0, 2]).as_slice()
+            == [6i64, 1, 1, 20].as_slice()
     );
-    assert_eq!(rt;
-        reduced_z(&rt, rt.alloc(), ScanZ::Mul, &[2, 3, 4], &[0, 2, 1, 0])?.as_slice(),
-        [1i64, 6, 4, 1].as_slice()
+    assert!(rt;
+        reduced_z(&rt, rt.alloc(), ScanZ::Mul, &[2, 3, 4], &[0, 2, 1, 0]).as_slice()
+            == [1i64, 6, 4, 1].as_slice()
     );
-    assert_eq!(rt; reduced_z(&rt, rt.alloc(), ScanZ::Add, &[], &[])?.len(), 0);
-    Ok(())
+    assert!(rt; reduced_z(&rt, rt.alloc(), ScanZ::Add, &[], &[]).len() == 0);
 }
 
 #[test]
-fn takes_segments_of_one_item(rt: HostRuntime) -> Result<(), Fail> {
+fn takes_segments_of_one_item(rt: HostRuntime) {
     // 65 of them, then an empty segment and one of two items.
     let items = [7i64; 67];
     let mut lengths = [1i64; 67];
@@ -84,17 +78,14 @@ fn takes_segments_of_one_item(rt: HostRuntime) -> Result<(), Fail> {
     let mut sums = [7i64; 67];
     sums[65] = 0;
     sums[66] = 14;
-    assert_eq!(rt;
-        reduced_z(&rt, rt.alloc(), ScanZ::Add, &items, &lengths)?.as_slice(),
-        sums.as_slice()
+    assert!(rt;
+        reduced_z(&rt, rt.alloc(), ScanZ::Add, &items, &lengths).as_slice() == sums.as_slice()
     );
     let mut before = [0i64; 67];
     before[66] = 7;
-    assert_eq!(rt;
-        scanned_z(&rt, rt.alloc(), ScanZ::Add, &items, &lengths)?.as_slice(),
-        before.as_slice()
+    assert!(rt;
+        scanned_z(&rt, rt.alloc(), ScanZ::Add, &items, &lengths).as_slice() == before.as_slice()
     );
-    Ok(())
 }
 
 /// Operations, what they make of the ends of the range, and their units.
@@ -109,25 +100,23 @@ const ENDS: [(ScanZ, i64, i64); 7] = [
 ];
 
 #[test]
-fn takes_the_ends_of_the_range(rt: HostRuntime) -> Result<(), Fail> {
+fn takes_the_ends_of_the_range(rt: HostRuntime) {
     let ends = [i64::MIN, i64::MAX, i64::MAX];
     for &(op, whole, unit) in &ENDS {
-        assert_eq!(rt;
-            reduced_z(&rt, rt.alloc(), op, &ends, &[3, 0])?.as_slice(),
-            [whole, unit].as_slice()
+        assert!(rt;
+            reduced_z(&rt, rt.alloc(), op, &ends, &[3, 0]).as_slice() == [whole, unit].as_slice()
         );
-        assert_eq!(rt;
-            scanned_z(&rt, rt.alloc(), op, &ends, &[1, 2])?.as_slice(),
-            [unit, unit, i64::MAX].as_slice()
+        assert!(rt;
+            scanned_z(&rt, rt.alloc(), op, &ends, &[1, 2]).as_slice()
+                == [unit, unit, i64::MAX].as_slice()
         );
     }
-    Ok(())
 }
 
 #[test]
-fn scans_and_reduces_truth_values(rt: HostRuntime) -> Result<(), Fail> {
+fn scans_and_reduces_truth_values(rt: HostRuntime) {
     let mut meter = Meter::new();
-    let four = cut(rt.alloc(), &[4])?;
+    let four = cut(&rt, rt.alloc(), &[4]);
     assert!(rt; four.total() == 4);
     let odd = scan_b(
         &rt,
@@ -138,8 +127,8 @@ fn scans_and_reduces_truth_values(rt: HostRuntime) -> Result<(), Fail> {
         &four,
     );
     assert!(rt; is_made(odd, &[false, true, false, false]));
-    assert_eq!(rt; meter.runs(), 1);
-    let three = cut(rt.alloc(), &[2, 0, 1])?;
+    assert!(rt; meter.runs() == 1);
+    let three = cut(&rt, rt.alloc(), &[2, 0, 1]);
     assert!(rt; three.total() == 3);
     for (op, wanted) in [
         (ScanB::And, [false, true, true]),
@@ -156,6 +145,5 @@ fn scans_and_reduces_truth_values(rt: HostRuntime) -> Result<(), Fail> {
         );
         assert!(rt; is_made(made, &wanted));
     }
-    assert_eq!(rt; meter.runs(), 4);
-    Ok(())
+    assert!(rt; meter.runs() == 4);
 }

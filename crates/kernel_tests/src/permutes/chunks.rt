@@ -10,7 +10,6 @@ use permute_kernels::{
 };
 use scan_kernels::{Kept, Meter, Sequential};
 use std::process::Abort;
-use std::test::Fail;
 
 const ITEMS: [i64; 10] = [3, -4, 0, 7, 1, -9, 5, 2, 8, -6];
 
@@ -25,57 +24,49 @@ macro_rules! by_chunks {
             let mut meter = Meter::with_chunk(chunk);
             let fresh = $kernel(&$rt, $rt.alloc(), &mut meter $(, $operand)*);
             assert!($rt; is_made(fresh, $wanted.as_slice()), "chunk {chunk}");
-            let kept = Kept::new(vec![in $rt.alloc(); $old; $wanted.len()]?);
+            let kept = Kept::new(vec![in $rt.alloc(); $old; $wanted.len()].expect(&$rt, "memory"));
             let over = $kernel(&Sequential, kept, &mut meter $(, $operand)*);
             assert!($rt; is_made(over, $wanted.as_slice()), "chunk {chunk}");
-            assert_eq!($rt; meter.runs(), 2);
+            assert!($rt; meter.runs() == 2);
         }
     };
 }
 
 #[test]
-fn gathers_integers(rt: HostRuntime) -> Result<(), Fail> {
+fn gathers_integers(rt: HostRuntime) {
     let index = [9i64, 0, 3, 3, 8, 1, 0, 5, 5];
     assert!(rt; are_places(&index, ITEMS.len()));
     let wanted = [-6i64, 3, 7, 7, 8, -4, 3, -9, -9];
     by_chunks!(rt, 7i64, wanted, gather_z, &ITEMS, &index);
-    Ok(())
 }
 
 #[test]
-fn gathers_truth_values(rt: HostRuntime) -> Result<(), Fail> {
+fn gathers_truth_values(rt: HostRuntime) {
     let index = [9i64, 0, 2, 3, 8, 1, 0, 5, 6];
     assert!(rt; are_places(&index, FLAGS.len()));
     let wanted = [true, true, false, true, false, false, true, false, true];
     by_chunks!(rt, false, wanted, gather_b, &FLAGS, &index);
-    Ok(())
 }
 
 /// Where each of ten items goes.
 const INDEX: [i64; 10] = [9, 0, 3, 2, 8, 1, 4, 5, 7, 6];
 
 #[test]
-fn permutes_integers(rt: HostRuntime) -> Result<(), Fail> {
-    let Ok(permutes) = is_whole_permutation(rt.alloc(), &INDEX) else {
-        return Err("refused".into());
-    };
+fn permutes_integers(rt: HostRuntime) {
+    let permutes = is_whole_permutation(rt.alloc(), &INDEX).expect(&rt, "memory");
     assert!(rt; permutes);
     let wanted = [-4i64, -9, 7, 0, 5, 2, -6, 8, 1, 3];
     by_chunks!(rt, 7i64, wanted, permute_whole_z, &ITEMS, &INDEX);
-    Ok(())
 }
 
 #[test]
-fn permutes_truth_values(rt: HostRuntime) -> Result<(), Fail> {
-    let Ok(permutes) = is_whole_permutation(rt.alloc(), &INDEX) else {
-        return Err("refused".into());
-    };
+fn permutes_truth_values(rt: HostRuntime) {
+    let permutes = is_whole_permutation(rt.alloc(), &INDEX).expect(&rt, "memory");
     assert!(rt; permutes);
     let wanted = [
         false, false, true, false, true, false, true, false, true, true,
     ];
     by_chunks!(rt, false, wanted, permute_whole_b, &FLAGS, &INDEX);
-    Ok(())
 }
 
 /// The lengths of segments, with empty ones at the beginning, between others, and where chunks of two end.
@@ -87,9 +78,9 @@ const READ: [i64; 9] = [2, 0, 0, 0, 0, 3, 1, 1, 1];
 const BY: [i64; 7] = [0, 2, 3, 0, 3, 0, 1];
 
 #[test]
-fn gathers_integers_of_segments(rt: HostRuntime) -> Result<(), Fail> {
-    let source = cut(rt.alloc(), &LENGTHS)?;
-    let by = cut(rt.alloc(), &BY)?;
+fn gathers_integers_of_segments(rt: HostRuntime) {
+    let source = cut(&rt, rt.alloc(), &LENGTHS);
+    let by = cut(&rt, rt.alloc(), &BY);
     assert!(rt; source.total() == ITEMS.len() && by.total() == READ.len());
     assert!(rt; source.count() == by.count());
     assert!(rt; in_range(&READ, &source, &by));
@@ -104,13 +95,12 @@ fn gathers_integers_of_segments(rt: HostRuntime) -> Result<(), Fail> {
         &READ,
         &by
     );
-    Ok(())
 }
 
 #[test]
-fn gathers_truth_values_of_segments(rt: HostRuntime) -> Result<(), Fail> {
-    let source = cut(rt.alloc(), &LENGTHS)?;
-    let by = cut(rt.alloc(), &BY)?;
+fn gathers_truth_values_of_segments(rt: HostRuntime) {
+    let source = cut(&rt, rt.alloc(), &LENGTHS);
+    let by = cut(&rt, rt.alloc(), &BY);
     assert!(rt; source.total() == FLAGS.len() && by.total() == READ.len());
     assert!(rt; source.count() == by.count());
     assert!(rt; in_range(&READ, &source, &by));
@@ -125,79 +115,68 @@ fn gathers_truth_values_of_segments(rt: HostRuntime) -> Result<(), Fail> {
         &READ,
         &by
     );
-    Ok(())
 }
 
 /// Where each item goes in its segment.
 const MOVED: [i64; 10] = [2, 0, 1, 0, 1, 3, 0, 2, 1, 0];
 
 #[test]
-fn permutes_integers_of_segments(rt: HostRuntime) -> Result<(), Fail> {
-    let segments = cut(rt.alloc(), &LENGTHS)?;
+fn permutes_integers_of_segments(rt: HostRuntime) {
+    let segments = cut(&rt, rt.alloc(), &LENGTHS);
     assert!(rt; segments.total() == MOVED.len());
-    let Ok(permutes) = is_permutation(rt.alloc(), &MOVED, &segments) else {
-        return Err("refused".into());
-    };
+    let permutes = is_permutation(rt.alloc(), &MOVED, &segments).expect(&rt, "memory");
     assert!(rt; permutes);
     let wanted = [-4i64, 0, 3, 7, 5, 1, 2, -9, -6, 8];
     by_chunks!(rt, 7i64, wanted, permute_z, &ITEMS, &MOVED, &segments);
-    Ok(())
 }
 
 #[test]
-fn permutes_truth_values_of_segments(rt: HostRuntime) -> Result<(), Fail> {
-    let segments = cut(rt.alloc(), &LENGTHS)?;
+fn permutes_truth_values_of_segments(rt: HostRuntime) {
+    let segments = cut(&rt, rt.alloc(), &LENGTHS);
     assert!(rt; segments.total() == MOVED.len());
-    let Ok(permutes) = is_permutation(rt.alloc(), &MOVED, &segments) else {
-        return Err("refused".into());
-    };
+    let permutes = is_permutation(rt.alloc(), &MOVED, &segments).expect(&rt, "memory");
     assert!(rt; permutes);
     let wanted = [
         false, false, true, true, true, true, false, false, true, false,
     ];
     by_chunks!(rt, false, wanted, permute_b, &FLAGS, &MOVED, &segments);
-    Ok(())
 }
 
 #[test]
-fn packs_integers(rt: HostRuntime) -> Result<(), Fail> {
+fn packs_integers(rt: HostRuntime) {
     let wanted = [3i64, 7, 1, 5, -6];
     by_chunks!(rt, 7i64, wanted, pack_z, &ITEMS, &FLAGS);
-    Ok(())
 }
 
 #[test]
-fn packs_truth_values(rt: HostRuntime) -> Result<(), Fail> {
+fn packs_truth_values(rt: HostRuntime) {
     let kept = [
         true, true, false, false, true, false, false, true, false, false,
     ];
     let wanted = [true, false, true, false];
     by_chunks!(rt, false, wanted, pack_b, &FLAGS, &kept);
-    Ok(())
 }
 
 #[test]
-fn counts_what_each_segment_keeps(rt: HostRuntime) -> Result<(), Fail> {
-    let segments = cut(rt.alloc(), &LENGTHS)?;
+fn counts_what_each_segment_keeps(rt: HostRuntime) {
+    let segments = cut(&rt, rt.alloc(), &LENGTHS);
     assert!(rt; segments.total() == FLAGS.len());
     let wanted = [0i64, 1, 1, 0, 2, 0, 1];
     by_chunks!(rt, 7i64, wanted, packed_lengths, &FLAGS, &segments);
-    Ok(())
 }
 
 #[test]
-fn packs_more_than_a_block(rt: HostRuntime) -> Result<(), Fail> {
-    let mut items = vec![in rt.alloc(); 0i64; 1_000]?;
+fn packs_more_than_a_block(rt: HostRuntime) {
+    let mut items = vec![in rt.alloc(); 0i64; 1_000].expect(&rt, "memory");
     for i in 0..items.len() {
         items[i] = i as i64;
     }
-    let mut flags = vec![in rt.alloc(); true; 1_000]?;
+    let mut flags = vec![in rt.alloc(); true; 1_000].expect(&rt, "memory");
     flags[0] = false;
     flags[500] = false;
     let mut meter = Meter::with_chunk(300);
-    let made = pack_z(&rt, rt.alloc(), &mut meter, &items, &flags).map_err(|_| "refused")?;
-    assert_eq!(rt; made.len(), 998);
+    let made = pack_z(&rt, rt.alloc(), &mut meter, &items, &flags).expect(&rt, "memory");
+    assert!(rt; made.len() == 998);
     let around = [made.get(0), made.get(498), made.get(499), made.get(997)];
     assert!(rt; around == [Some(&1), Some(&499), Some(&501), Some(&999)]);
-    Ok(())
 }

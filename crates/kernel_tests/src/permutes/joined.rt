@@ -1,6 +1,6 @@
 //! Each kernel on operands that lie in parts, some of them empty or with empty segments: one run is counted for all parts.
 
-ghost use Rattle.std.specs.Prelude.{◌≡◌, length, sum, All, OnOk};
+ghost use Rattle.std.specs.Prelude.{◌≡◌, length, sum, All};
 ghost use Rattle.scan_kernels.specs.Indices.{HoldsEachPlaceOnce, IsPlaceOf, LieWithin, PermuteSegments};
 
 use crate::cut::cut;
@@ -12,7 +12,6 @@ use scan_kernels::{Meter, run_joined};
 use segment_desc::Segd;
 use std::alloc::Global;
 use std::process::Abort;
-use std::test::Fail;
 
 /// Whether the results of the parts are these.
 fn are_parts<T: PartialEq>(made: &[Vec<T>], wanted: &[&[T]]) -> bool {
@@ -20,40 +19,28 @@ fn are_parts<T: PartialEq>(made: &[Vec<T>], wanted: &[&[T]]) -> bool {
 }
 
 /// Asserts that the index of each part permutes each segment of its items.
-fn assert_permutes<T>(
-    rt: &impl Abort,
-    alloc: Global,
-    parts: &[(&[T], &[i64], &Segd)],
-) -> Result<(), Fail>
-    ensures { OnOk result (All (λ p. (length p.1.now ≡ length p.0.now) × (sum p.2.now ≡ length p.1.now) × PermuteSegments p.2.now p.1.now) parts.now) }
+fn assert_permutes<T>(rt: &impl Abort, alloc: Global, parts: &[(&[T], &[i64], &Segd)])
+    ensures { All (λ p. (length p.1.now ≡ length p.0.now) × (sum p.2.now ≡ length p.1.now) × PermuteSegments p.2.now p.1.now) parts.now }
 {
     for part in parts {
         assert!(rt; part.1.len() == part.0.len());
         assert!(rt; part.2.total() == part.1.len());
-        let Ok(permutes) = is_permutation(alloc, part.1, part.2) else {
-            return Err("refused".into());
-        };
+        let permutes = is_permutation(alloc, part.1, part.2).expect(rt, "memory");
         assert!(rt; permutes);
     }
-    Ok(())
 }
 
 /// Asserts that the index of each part permutes all its items.
-fn assert_permutes_whole<T>(
-    rt: &impl Abort,
-    alloc: Global,
-    parts: &[(&[T], &[i64])],
-) -> Result<(), Fail>
-    ensures { OnOk result (All (λ p. (length p.1.now ≡ length p.0.now) × HoldsEachPlaceOnce p.1.now) parts.now) }
+fn assert_permutes_whole<T>(rt: &impl Abort, alloc: Global, parts: &[(&[T], &[i64])])
+    ensures { All (λ p. (length p.1.now ≡ length p.0.now) × HoldsEachPlaceOnce p.1.now) parts.now }
 {
     for part in parts {
         assert!(rt; part.1.len() == part.0.len());
         let Ok(permutes) = is_whole_permutation(alloc, part.1) else {
-            return Err("refused".into());
+            panic!(rt; "memory");
         };
         assert!(rt; permutes);
     }
-    Ok(())
 }
 
 /// Asserts that each index is a place of the segment of its number, in each part.
@@ -96,67 +83,61 @@ fn assert_totals(rt: &impl Abort, parts: &[(&[bool], &Segd)])
 }
 
 #[test]
-fn permutes_each_segment_of_each_part(rt: HostRuntime) -> Result<(), Fail> {
+fn permutes_each_segment_of_each_part(rt: HostRuntime) {
     let mut meter = Meter::new();
     let (first, none, last) = (
-        cut(rt.alloc(), &[2, 1])?,
-        cut(rt.alloc(), &[])?,
-        cut(rt.alloc(), &[0, 3, 0])?,
+        cut(&rt, rt.alloc(), &[2, 1]),
+        cut(&rt, rt.alloc(), &[]),
+        cut(&rt, rt.alloc(), &[0, 3, 0]),
     );
     let parts: [(&[i64], &[i64], &Segd); 3] = [
         (&[7, 8, 9], &[1, 0, 0], &first),
         (&[], &[], &none),
         (&[1, 2, 3], &[2, 0, 1], &last),
     ];
-    assert_permutes(&rt, rt.alloc(), &parts)?;
-    let made = run_joined(&rt, rt.alloc(), &mut meter, Permute, &parts).map_err(|_| "refused")?;
+    assert_permutes(&rt, rt.alloc(), &parts);
+    let made = run_joined(&rt, rt.alloc(), &mut meter, Permute, &parts).expect(&rt, "memory");
     let wanted: [&[i64]; 3] = [&[8, 7, 9], &[], &[2, 3, 1]];
     assert!(rt; are_parts(&made, &wanted));
-    assert_eq!(rt; meter.runs(), 1);
+    assert!(rt; meter.runs() == 1);
     let parts: [(&[bool], &[i64], &Segd); 2] = [
         (&[], &[], &none),
         (&[false, true, true], &[1, 0, 0], &first),
     ];
-    assert_permutes(&rt, rt.alloc(), &parts)?;
-    let made = run_joined(&rt, rt.alloc(), &mut meter, Permute, &parts).map_err(|_| "refused")?;
+    assert_permutes(&rt, rt.alloc(), &parts);
+    let made = run_joined(&rt, rt.alloc(), &mut meter, Permute, &parts).expect(&rt, "memory");
     let wanted: [&[bool]; 2] = [&[], &[true, false, true]];
     assert!(rt; are_parts(&made, &wanted));
-    assert_eq!(rt; meter.runs(), 2);
-    Ok(())
+    assert!(rt; meter.runs() == 2);
 }
 
 #[test]
-fn permutes_each_part_whole(rt: HostRuntime) -> Result<(), Fail> {
+fn permutes_each_part_whole(rt: HostRuntime) {
     let mut meter = Meter::new();
     let parts: [(&[i64], &[i64]); 3] = [
         (&[10, 20, 30], &[2, 0, 1]),
         (&[], &[]),
         (&[5, 6], &[1, 0]),
     ];
-    assert_permutes_whole(&rt, rt.alloc(), &parts)?;
-    let made = run_joined(&rt, rt.alloc(), &mut meter, PermuteWhole, &parts).map_err(
-        |_| "refused",
-    )?;
+    assert_permutes_whole(&rt, rt.alloc(), &parts);
+    let made = run_joined(&rt, rt.alloc(), &mut meter, PermuteWhole, &parts).expect(&rt, "memory");
     let wanted: [&[i64]; 3] = [&[20, 30, 10], &[], &[6, 5]];
     assert!(rt; are_parts(&made, &wanted));
-    assert_eq!(rt; meter.runs(), 1);
+    assert!(rt; meter.runs() == 1);
     let parts: [(&[bool], &[i64]); 2] = [(&[true, false, false], &[2, 1, 0]), (&[true], &[0])];
-    assert_permutes_whole(&rt, rt.alloc(), &parts)?;
-    let made = run_joined(&rt, rt.alloc(), &mut meter, PermuteWhole, &parts).map_err(
-        |_| "refused",
-    )?;
+    assert_permutes_whole(&rt, rt.alloc(), &parts);
+    let made = run_joined(&rt, rt.alloc(), &mut meter, PermuteWhole, &parts).expect(&rt, "memory");
     let wanted: [&[bool]; 2] = [&[false, false, true], &[true]];
     assert!(rt; are_parts(&made, &wanted));
-    assert_eq!(rt; meter.runs(), 2);
-    Ok(())
+    assert!(rt; meter.runs() == 2);
 }
 
 #[test]
-fn reads_the_segments_of_each_part(rt: HostRuntime) -> Result<(), Fail> {
+fn reads_the_segments_of_each_part(rt: HostRuntime) {
     let mut meter = Meter::new();
-    let (two_one, three_one) = (cut(rt.alloc(), &[2, 1])?, cut(rt.alloc(), &[3, 1])?);
-    let (none_two, none) = (cut(rt.alloc(), &[0, 2])?, cut(rt.alloc(), &[])?);
-    let (one, empty) = (cut(rt.alloc(), &[1])?, cut(rt.alloc(), &[0])?);
+    let (two_one, three_one) = (cut(&rt, rt.alloc(), &[2, 1]), cut(&rt, rt.alloc(), &[3, 1]));
+    let (none_two, none) = (cut(&rt, rt.alloc(), &[0, 2]), cut(&rt, rt.alloc(), &[]));
+    let (one, empty) = (cut(&rt, rt.alloc(), &[1]), cut(&rt, rt.alloc(), &[0]));
     let parts: [(&[i64], &Segd, &[i64], &Segd); 4] = [
         (&[1, 2, 3], &two_one, &[1, 0, 0, 0], &three_one),
         (&[], &none, &[], &none),
@@ -164,24 +145,23 @@ fn reads_the_segments_of_each_part(rt: HostRuntime) -> Result<(), Fail> {
         (&[6], &one, &[], &empty),
     ];
     assert_in_range(&rt, &parts);
-    let made = run_joined(&rt, rt.alloc(), &mut meter, BackPermute, &parts).map_err(|_| "refused")?;
+    let made = run_joined(&rt, rt.alloc(), &mut meter, BackPermute, &parts).expect(&rt, "memory");
     let wanted: [&[i64]; 4] = [&[2, 1, 1, 3], &[], &[5, 5], &[]];
     assert!(rt; are_parts(&made, &wanted));
-    assert_eq!(rt; meter.runs(), 1);
+    assert!(rt; meter.runs() == 1);
     let parts: [(&[bool], &Segd, &[i64], &Segd); 2] = [
         (&[true, false, true], &two_one, &[1, 1, 0, 0], &three_one),
         (&[false], &one, &[], &empty),
     ];
     assert_in_range(&rt, &parts);
-    let made = run_joined(&rt, rt.alloc(), &mut meter, BackPermute, &parts).map_err(|_| "refused")?;
+    let made = run_joined(&rt, rt.alloc(), &mut meter, BackPermute, &parts).expect(&rt, "memory");
     let wanted: [&[bool]; 2] = [&[false, false, true, true], &[]];
     assert!(rt; are_parts(&made, &wanted));
-    assert_eq!(rt; meter.runs(), 2);
-    Ok(())
+    assert!(rt; meter.runs() == 2);
 }
 
 #[test]
-fn gathers_from_the_items_of_each_part(rt: HostRuntime) -> Result<(), Fail> {
+fn gathers_from_the_items_of_each_part(rt: HostRuntime) {
     let mut meter = Meter::new();
     let parts: [(&[i64], &[i64]); 4] = [
         (&[10, 20, 30], &[2, 2, 0, 1]),
@@ -190,21 +170,20 @@ fn gathers_from_the_items_of_each_part(rt: HostRuntime) -> Result<(), Fail> {
         (&[5, 6], &[1]),
     ];
     assert_places(&rt, &parts);
-    let made = run_joined(&rt, rt.alloc(), &mut meter, Gather, &parts).map_err(|_| "refused")?;
+    let made = run_joined(&rt, rt.alloc(), &mut meter, Gather, &parts).expect(&rt, "memory");
     let wanted: [&[i64]; 4] = [&[30, 30, 10, 20], &[], &[], &[6]];
     assert!(rt; are_parts(&made, &wanted));
-    assert_eq!(rt; meter.runs(), 1);
+    assert!(rt; meter.runs() == 1);
     let parts: [(&[bool], &[i64]); 2] = [(&[true, false], &[1, 0, 1]), (&[true, true], &[1])];
     assert_places(&rt, &parts);
-    let made = run_joined(&rt, rt.alloc(), &mut meter, Gather, &parts).map_err(|_| "refused")?;
+    let made = run_joined(&rt, rt.alloc(), &mut meter, Gather, &parts).expect(&rt, "memory");
     let wanted: [&[bool]; 2] = [&[false, true, false], &[true]];
     assert!(rt; are_parts(&made, &wanted));
-    assert_eq!(rt; meter.runs(), 2);
-    Ok(())
+    assert!(rt; meter.runs() == 2);
 }
 
 #[test]
-fn packs_each_part(rt: HostRuntime) -> Result<(), Fail> {
+fn packs_each_part(rt: HostRuntime) {
     let mut meter = Meter::new();
     let parts: [(&[i64], &[bool]); 4] = [
         (&[5, 6, 7, 8], &[true, false, false, true]),
@@ -213,27 +192,26 @@ fn packs_each_part(rt: HostRuntime) -> Result<(), Fail> {
         (&[3], &[true]),
     ];
     assert_flags(&rt, &parts);
-    let made = run_joined(&rt, rt.alloc(), &mut meter, Pack, &parts).map_err(|_| "refused")?;
+    let made = run_joined(&rt, rt.alloc(), &mut meter, Pack, &parts).expect(&rt, "memory");
     let wanted: [&[i64]; 4] = [&[5, 8], &[], &[], &[3]];
     assert!(rt; are_parts(&made, &wanted));
-    assert_eq!(rt; meter.runs(), 1);
+    assert!(rt; meter.runs() == 1);
     let parts: [(&[bool], &[bool]); 2] = [
         (&[true, false], &[false, true]),
         (&[true, true], &[true, true]),
     ];
     assert_flags(&rt, &parts);
-    let made = run_joined(&rt, rt.alloc(), &mut meter, Pack, &parts).map_err(|_| "refused")?;
+    let made = run_joined(&rt, rt.alloc(), &mut meter, Pack, &parts).expect(&rt, "memory");
     let wanted: [&[bool]; 2] = [&[false], &[true, true]];
     assert!(rt; are_parts(&made, &wanted));
-    assert_eq!(rt; meter.runs(), 2);
-    Ok(())
+    assert!(rt; meter.runs() == 2);
 }
 
 #[test]
-fn counts_what_each_segment_of_each_part_keeps(rt: HostRuntime) -> Result<(), Fail> {
+fn counts_what_each_segment_of_each_part_keeps(rt: HostRuntime) {
     let mut meter = Meter::new();
-    let (first, empty) = (cut(rt.alloc(), &[3, 1])?, cut(rt.alloc(), &[0, 0])?);
-    let (none, last) = (cut(rt.alloc(), &[])?, cut(rt.alloc(), &[0, 2, 0])?);
+    let (first, empty) = (cut(&rt, rt.alloc(), &[3, 1]), cut(&rt, rt.alloc(), &[0, 0]));
+    let (none, last) = (cut(&rt, rt.alloc(), &[]), cut(&rt, rt.alloc(), &[0, 2, 0]));
     let parts: [(&[bool], &Segd); 4] = [
         (&[true, false, false, true], &first),
         (&[], &empty),
@@ -241,20 +219,18 @@ fn counts_what_each_segment_of_each_part_keeps(rt: HostRuntime) -> Result<(), Fa
         (&[true, true], &last),
     ];
     assert_totals(&rt, &parts);
-    let made = run_joined(&rt, rt.alloc(), &mut meter, PackLengths, &parts).map_err(|_| "refused")?;
+    let made = run_joined(&rt, rt.alloc(), &mut meter, PackLengths, &parts).expect(&rt, "memory");
     let wanted: [&[i64]; 4] = [&[1, 1], &[0, 0], &[], &[0, 2, 0]];
     assert!(rt; are_parts(&made, &wanted));
-    assert_eq!(rt; meter.runs(), 1);
-    Ok(())
+    assert!(rt; meter.runs() == 1);
 }
 
 #[test]
-fn counts_one_run_for_no_parts(rt: HostRuntime) -> Result<(), Fail> {
+fn counts_one_run_for_no_parts(rt: HostRuntime) {
     let mut meter = Meter::new();
     let parts: [(&[i64], &[i64]); 0] = [];
     assert_places(&rt, &parts);
-    let made = run_joined(&rt, rt.alloc(), &mut meter, Gather, &parts).map_err(|_| "refused")?;
-    assert_eq!(rt; made.len(), 0);
-    assert_eq!(rt; meter.runs(), 1);
-    Ok(())
+    let made = run_joined(&rt, rt.alloc(), &mut meter, Gather, &parts).expect(&rt, "memory");
+    assert!(rt; made.len() == 0);
+    assert!(rt; meter.runs() == 1);
 }

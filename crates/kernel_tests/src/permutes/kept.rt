@@ -7,47 +7,42 @@ use permute_kernels::{
 };
 use scan_kernels::{Kept, Meter};
 use std::process::Abort;
-use std::test::Fail;
 
 #[test]
-fn integers_in_a_kept_vector(rt: HostRuntime) -> Result<(), Fail> {
+fn integers_in_a_kept_vector(rt: HostRuntime) {
     let index = [2, 0];
     for space in [2, 1, 4, 0] {
         let mut meter = Meter::new();
-        let kept = Kept::new(vec![in rt.alloc(); 7i64; space]?);
+        let kept = Kept::new(vec![in rt.alloc(); 7i64; space].expect(&rt, "memory"));
         let flags = [true, false, true];
         let made = pack_z(&rt, kept, &mut meter, &[5, 6, 8], &flags);
         assert!(rt; is_made(made, &[5i64, 8]), "space {space}");
-        let kept = Kept::new(vec![in rt.alloc(); 7i64; space]?);
+        let kept = Kept::new(vec![in rt.alloc(); 7i64; space].expect(&rt, "memory"));
         assert!(rt; are_places(&index, 3));
         let made = gather_z(&rt, kept, &mut meter, &[5, 6, 8], &index);
         assert!(rt; is_made(made, &[8i64, 5]), "space {space}");
-        let segments = cut(rt.alloc(), &[1, 2])?;
+        let segments = cut(&rt, rt.alloc(), &[1, 2]);
         assert!(rt; segments.total() == 3);
-        let kept = Kept::new(vec![in rt.alloc(); 7i64; space]?);
+        let kept = Kept::new(vec![in rt.alloc(); 7i64; space].expect(&rt, "memory"));
         let made = packed_lengths(&rt, kept, &mut meter, &flags, &segments);
         assert!(rt; is_made(made, &[1i64, 1]), "space {space}");
-        assert_eq!(rt; meter.runs(), 3);
+        assert!(rt; meter.runs() == 3);
     }
-    Ok(())
 }
 
 #[test]
-fn truth_values_in_a_kept_vector(rt: HostRuntime) -> Result<(), Fail> {
+fn truth_values_in_a_kept_vector(rt: HostRuntime) {
     let index = [2, 0, 1];
-    let Ok(permutes) = is_whole_permutation(rt.alloc(), &index) else {
-        return Err("refused".into());
-    };
+    let permutes = is_whole_permutation(rt.alloc(), &index).expect(&rt, "memory");
     assert!(rt; permutes);
     for space in [3, 2, 8, 0] {
         let mut meter = Meter::new();
-        let kept = Kept::new(vec![in rt.alloc(); true; space]?);
+        let kept = Kept::new(vec![in rt.alloc(); true; space].expect(&rt, "memory"));
         let made = permute_whole_b(&rt, kept, &mut meter, &[true, false, false], &index);
         assert!(rt; is_made(made, &[false, false, true]), "space {space}");
-        let kept = Kept::new(vec![in rt.alloc(); true; space]?);
+        let kept = Kept::new(vec![in rt.alloc(); true; space].expect(&rt, "memory"));
         let made = pack_b(&rt, kept, &mut meter, &[true, false], &[false, false]);
         assert!(rt; is_made(made, &[]), "space {space}");
-        assert_eq!(rt; meter.runs(), 2);
+        assert!(rt; meter.runs() == 2);
     }
-    Ok(())
 }

@@ -9,7 +9,6 @@ use permute_kernels::{
 use scan_kernels::{Execution, Meter, Sequential};
 use std::alloc::Global;
 use std::process::Abort;
-use std::test::Fail;
 use std::thread::Threads;
 
 /// The permuted integers, where the index is a permutation and one run was counted.
@@ -19,18 +18,16 @@ fn permuted_z<R: Abort + Threads + Execution<Shared = R> + Sync>(
     items: &[i64],
     index: &[i64],
     lengths: &[i64],
-) -> Result<Vec<i64>, Fail> {
-    let segments = cut(alloc, lengths)?;
+) -> Vec<i64> {
+    let segments = cut(rt, alloc, lengths);
     assert!(rt; index.len() == items.len());
     assert!(rt; segments.total() == index.len());
-    let Ok(permutes) = is_permutation(alloc, index, &segments) else {
-        return Err("refused".into());
-    };
+    let permutes = is_permutation(alloc, index, &segments).expect(rt, "memory");
     assert!(rt; permutes);
     let mut meter = Meter::new();
-    let made = permute_z(rt, alloc, &mut meter, items, index, &segments).map_err(|_| "refused")?;
-    assert_eq!(rt; meter.runs(), 1);
-    Ok(made)
+    let made = permute_z(rt, alloc, &mut meter, items, index, &segments).expect(rt, "memory");
+    assert!(rt; meter.runs() == 1);
+    made
 }
 
 /// The integers that the index reads, where each index is in range and one run was counted.
@@ -41,43 +38,39 @@ fn gathered_z<R: Abort + Threads + Execution<Shared = R> + Sync>(
     source: &[i64],
     index: &[i64],
     by: &[i64],
-) -> Result<Vec<i64>, Fail> {
-    let (source, by) = (cut(alloc, source)?, cut(alloc, by)?);
+) -> Vec<i64> {
+    let (source, by) = (cut(rt, alloc, source), cut(rt, alloc, by));
     assert!(rt; source.total() == items.len());
     assert!(rt; by.total() == index.len());
     assert!(rt; source.count() == by.count());
     assert!(rt; in_range(index, &source, &by));
     let mut meter = Meter::new();
-    let made = back_permute_z(rt, alloc, &mut meter, items, &source, index, &by).map_err(
-        |_| "refused",
-    )?;
-    assert_eq!(rt; meter.runs(), 1);
-    Ok(made)
+    let made = back_permute_z(rt, alloc, &mut meter, items, &source, index, &by).expect(
+        rt, "memory",
+    );
+    assert!(rt; meter.runs() == 1);
+    made
 }
 
 #[test]
-fn permutes_a_vector(rt: HostRuntime) -> Result<(), Fail> {
-    let made = permuted_z(&rt, rt.alloc(), &[10, 20, 30], &[2, 0, 1], &[3])?;
-    assert_eq!(rt; made.as_slice(), [20i64, 30, 10].as_slice());
-    Ok(())
+fn permutes_a_vector(rt: HostRuntime) {
+    let made = permuted_z(&rt, rt.alloc(), &[10, 20, 30], &[2, 0, 1], &[3]);
+    assert!(rt; made.as_slice() == [20i64, 30, 10].as_slice());
 }
 
 #[test]
-fn permutes_each_segment(rt: HostRuntime) -> Result<(), Fail> {
-    let made = permuted_z(&rt, rt.alloc(), &[7, 8, 9], &[1, 0, 0], &[2, 1])?;
-    assert_eq!(rt; made.as_slice(), [8i64, 7, 9].as_slice());
-    let made = permuted_z(&rt, rt.alloc(), &[7, 8, 9], &[1, 0, 0], &[0, 2, 0, 1, 0])?;
-    assert_eq!(rt; made.as_slice(), [8i64, 7, 9].as_slice());
-    Ok(())
+fn permutes_each_segment(rt: HostRuntime) {
+    let made = permuted_z(&rt, rt.alloc(), &[7, 8, 9], &[1, 0, 0], &[2, 1]);
+    assert!(rt; made.as_slice() == [8i64, 7, 9].as_slice());
+    let made = permuted_z(&rt, rt.alloc(), &[7, 8, 9], &[1, 0, 0], &[0, 2, 0, 1, 0]);
+    assert!(rt; made.as_slice() == [8i64, 7, 9].as_slice());
 }
 
 #[test]
-fn permutes_truth_values(rt: HostRuntime) -> Result<(), Fail> {
-    let segments = cut(rt.alloc(), &[2])?;
+fn permutes_truth_values(rt: HostRuntime) {
+    let segments = cut(&rt, rt.alloc(), &[2]);
     assert!(rt; segments.total() == 2);
-    let Ok(permutes) = is_permutation(rt.alloc(), &[1, 0], &segments) else {
-        return Err("refused".into());
-    };
+    let permutes = is_permutation(rt.alloc(), &[1, 0], &segments).expect(&rt, "memory");
     assert!(rt; permutes);
     let mut meter = Meter::new();
     let made = permute_b(
@@ -88,51 +81,45 @@ fn permutes_truth_values(rt: HostRuntime) -> Result<(), Fail> {
         &[1, 0],
         &segments,
     )
-    .map_err(|_| "refused")?;
-    assert_eq!(rt; made.as_slice(), [false, true].as_slice());
-    assert_eq!(rt; meter.runs(), 1);
-    Ok(())
+    .expect(&rt, "memory");
+    assert!(rt; made.as_slice() == [false, true].as_slice());
+    assert!(rt; meter.runs() == 1);
 }
 
 #[test]
-fn permutes_with_no_segment_list(rt: HostRuntime) -> Result<(), Fail> {
+fn permutes_with_no_segment_list(rt: HostRuntime) {
     let mut meter = Meter::new();
     let index = [2, 0, 1];
-    let Ok(permutes) = is_whole_permutation(rt.alloc(), &index) else {
-        return Err("refused".into());
-    };
+    let permutes = is_whole_permutation(rt.alloc(), &index).expect(&rt, "memory");
     assert!(rt; permutes);
-    let made = permute_whole_z(&rt, rt.alloc(), &mut meter, &[10, 20, 30], &index).map_err(
-        |_| "refused",
-    )?;
-    assert_eq!(rt; made.as_slice(), [20i64, 30, 10].as_slice());
-    assert_eq!(rt; meter.runs(), 1);
-    let made = permute_whole_b(&rt, rt.alloc(), &mut meter, &[true, false, false], &index).map_err(
-        |_| "refused",
-    )?;
-    assert_eq!(rt; made.as_slice(), [false, false, true].as_slice());
-    assert_eq!(rt; meter.runs(), 2);
-    Ok(())
+    let made = permute_whole_z(&rt, rt.alloc(), &mut meter, &[10, 20, 30], &index).expect(
+        &rt, "memory",
+    );
+    assert!(rt; made.as_slice() == [20i64, 30, 10].as_slice());
+    assert!(rt; meter.runs() == 1);
+    let made = permute_whole_b(&rt, rt.alloc(), &mut meter, &[true, false, false], &index).expect(
+        &rt, "memory",
+    );
+    assert!(rt; made.as_slice() == [false, false, true].as_slice());
+    assert!(rt; meter.runs() == 2);
 }
 
 #[test]
-fn reads_places_again_and_again(rt: HostRuntime) -> Result<(), Fail> {
-    let made = gathered_z(&rt, rt.alloc(), &[10, 20, 30], &[3], &[2, 2, 0, 1], &[4])?;
-    assert_eq!(rt; made.as_slice(), [30i64, 30, 10, 20].as_slice());
-    assert_eq!(rt; gathered_z(&rt, rt.alloc(), &[], &[0], &[], &[0])?.len(), 0);
-    Ok(())
+fn reads_places_again_and_again(rt: HostRuntime) {
+    let made = gathered_z(&rt, rt.alloc(), &[10, 20, 30], &[3], &[2, 2, 0, 1], &[4]);
+    assert!(rt; made.as_slice() == [30i64, 30, 10, 20].as_slice());
+    assert!(rt; gathered_z(&rt, rt.alloc(), &[], &[0], &[], &[0]).len() == 0);
 }
 
 #[test]
-fn reads_the_segment_of_its_number(rt: HostRuntime) -> Result<(), Fail> {
-    let made = gathered_z(&rt, rt.alloc(), &[1, 2, 3], &[2, 1], &[1, 0, 0, 0], &[3, 1])?;
-    assert_eq!(rt; made.as_slice(), [2i64, 1, 1, 3].as_slice());
-    Ok(())
+fn reads_the_segment_of_its_number(rt: HostRuntime) {
+    let made = gathered_z(&rt, rt.alloc(), &[1, 2, 3], &[2, 1], &[1, 0, 0, 0], &[3, 1]);
+    assert!(rt; made.as_slice() == [2i64, 1, 1, 3].as_slice());
 }
 
 #[test]
-fn reads_truth_values(rt: HostRuntime) -> Result<(), Fail> {
-    let (source, by) = (cut(rt.alloc(), &[2])?, cut(rt.alloc(), &[2])?);
+fn reads_truth_values(rt: HostRuntime) {
+    let (source, by) = (cut(&rt, rt.alloc(), &[2]), cut(&rt, rt.alloc(), &[2]));
     assert!(rt; source.total() == 2);
     assert!(rt; by.total() == 2);
     assert!(rt; source.count() == by.count());
@@ -147,20 +134,19 @@ fn reads_truth_values(rt: HostRuntime) -> Result<(), Fail> {
         &[1, 1],
         &by,
     )
-    .map_err(|_| "refused")?;
-    assert_eq!(rt; made.as_slice(), [false, false].as_slice());
-    assert_eq!(rt; meter.runs(), 1);
-    Ok(())
+    .expect(&rt, "memory");
+    assert!(rt; made.as_slice() == [false, false].as_slice());
+    assert!(rt; meter.runs() == 1);
 }
 
 #[test]
-fn gathers_from_one_list(rt: HostRuntime) -> Result<(), Fail> {
+fn gathers_from_one_list(rt: HostRuntime) {
     let mut meter = Meter::new();
     let (items, index) = ([10, 20, 30], [2, 2, 0, 1]);
     assert!(rt; are_places(&index, items.len()));
     let made = gather_z(&rt, rt.alloc(), &mut meter, &items, &index);
     assert!(rt; is_made(made, &[30i64, 30, 10, 20]));
-    assert_eq!(rt; meter.runs(), 1);
+    assert!(rt; meter.runs() == 1);
     let flags = [true, false, false];
     assert!(rt; are_places(&index, flags.len()));
     let made = gather_b(&rt, rt.alloc(), &mut meter, &flags, &index);
@@ -168,8 +154,7 @@ fn gathers_from_one_list(rt: HostRuntime) -> Result<(), Fail> {
     assert!(rt; are_places(&[], 0));
     let made = gather_z(&rt, rt.alloc(), &mut meter, &[], &[]);
     assert!(rt; is_made(made, &[]));
-    assert_eq!(rt; meter.runs(), 3);
-    Ok(())
+    assert!(rt; meter.runs() == 3);
 }
 
 #[test]
@@ -178,5 +163,5 @@ fn gathers_with_no_runtime(rt: HostRuntime) {
     assert!(rt; are_places(&[1, 0], 2));
     let made = gather_z(&Sequential, rt.alloc(), &mut meter, &[5, 6], &[1, 0]);
     assert!(rt; is_made(made, &[6i64, 5]));
-    assert_eq!(rt; meter.runs(), 1);
+    assert!(rt; meter.runs() == 1);
 }

@@ -10,19 +10,16 @@ use permute_kernels::{
 use scan_kernels::{Meter, Sequential};
 use std::alloc::{Alloc, Global};
 use std::process::Abort;
-use std::test::Fail;
 
 #[test]
-fn whole_permutes(rt: HostRuntime) -> Result<(), Fail> {
+fn whole_permutes(rt: HostRuntime) {
     let (alloc, mut meter, index) = (rt.alloc(), Meter::new(), [2, 0, 1]);
-    let Ok(permutes) = is_whole_permutation(alloc, &index) else {
-        return Err("refused")?;
-    };
+    let permutes = is_whole_permutation(alloc, &index).expect(&rt, "memory");
     assert!(rt; permutes);
-    begin(&rt)?;
+    begin(&rt);
     let made = permute_whole_z(&Sequential, alloc, &mut meter, &[5, 6, 8], &index);
-    end(&rt, &mut meter, made, &[6, 8, 5])?;
-    begin(&rt)?;
+    end(&rt, &mut meter, made, &[6, 8, 5]);
+    begin(&rt);
     let made = permute_whole_b(
         &Sequential,
         alloc,
@@ -30,19 +27,17 @@ fn whole_permutes(rt: HostRuntime) -> Result<(), Fail> {
         &[true, false, false],
         &index,
     );
-    end(&rt, &mut meter, made, &[false, false, true])
+    end(&rt, &mut meter, made, &[false, false, true]);
 }
 
 #[test]
-fn permutes(rt: HostRuntime) -> Result<(), Fail> {
-    let (alloc, mut meter, segments) = (rt.alloc(), Meter::new(), cut(rt.alloc(), &[2, 0, 1])?);
+fn permutes(rt: HostRuntime) {
+    let (alloc, mut meter, segments) = (rt.alloc(), Meter::new(), cut(&rt, rt.alloc(), &[2, 0, 1]));
     let index = [1, 0, 0];
     assert!(rt; segments.total() == 3);
-    let Ok(permutes) = is_permutation(alloc, &index, &segments) else {
-        return Err("refused")?;
-    };
+    let permutes = is_permutation(alloc, &index, &segments).expect(&rt, "memory");
     assert!(rt; permutes);
-    begin(&rt)?;
+    begin(&rt);
     let made = permute_z(
         &Sequential,
         alloc,
@@ -51,34 +46,33 @@ fn permutes(rt: HostRuntime) -> Result<(), Fail> {
         &index,
         &segments,
     );
-    end(&rt, &mut meter, made, &[6, 5, 8])?;
-    begin(&rt)?;
+    end(&rt, &mut meter, made, &[6, 5, 8]);
+    begin(&rt);
     let flags = [true, false, true];
     let made = permute_b(&Sequential, alloc, &mut meter, &flags, &index, &segments);
-    end(&rt, &mut meter, made, &[false, true, true])
+    end(&rt, &mut meter, made, &[false, true, true]);
 }
 
 /// A test of an index answers, or memory is refused.
 #[test]
-fn tests_of_permutations(rt: HostRuntime) -> Result<(), Fail> {
-    let segments = cut(rt.alloc(), &[2, 0, 1])?;
+fn tests_of_permutations(rt: HostRuntime) {
+    let segments = cut(&rt, rt.alloc(), &[2, 0, 1]);
     assert!(rt; segments.total() == 3);
-    begin(&rt)?;
+    begin(&rt);
     let whole = is_whole_permutation(rt.alloc(), &[2, 0, 0]);
     let each = is_permutation(rt.alloc(), &[1, 0, 0], &segments);
-    println!(rt; "end")?;
+    println!(rt; "end").expect(&rt, "output");
     assert!(rt; !matches!(whole, Ok(true)) && !matches!(each, Ok(false)));
-    Ok(())
 }
 
 #[test]
-fn gathers(rt: HostRuntime) -> Result<(), Fail> {
+fn gathers(rt: HostRuntime) {
     let (alloc, mut meter, index) = (rt.alloc(), Meter::new(), [2, 0]);
     assert!(rt; are_places(&index, 3));
-    begin(&rt)?;
+    begin(&rt);
     let made = gather_z(&Sequential, alloc, &mut meter, &[5, 6, 8], &index);
-    end(&rt, &mut meter, made, &[8, 5])?;
-    begin(&rt)?;
+    end(&rt, &mut meter, made, &[8, 5]);
+    begin(&rt);
     let made = gather_b(
         &Sequential,
         alloc,
@@ -86,17 +80,17 @@ fn gathers(rt: HostRuntime) -> Result<(), Fail> {
         &[true, false, false],
         &index,
     );
-    end(&rt, &mut meter, made, &[false, true])
+    end(&rt, &mut meter, made, &[false, true]);
 }
 
 #[test]
-fn back_permutes(rt: HostRuntime) -> Result<(), Fail> {
+fn back_permutes(rt: HostRuntime) {
     let (alloc, mut meter) = (rt.alloc(), Meter::new());
-    let (source, by) = (cut(alloc, &[2, 0, 1])?, cut(alloc, &[3, 0, 1])?);
+    let (source, by) = (cut(&rt, alloc, &[2, 0, 1]), cut(&rt, alloc, &[3, 0, 1]));
     let index = [1, 0, 1, 0];
     assert!(rt; source.total() == 3 && by.total() == 4 && source.count() == by.count());
     assert!(rt; in_range(&index, &source, &by));
-    begin(&rt)?;
+    begin(&rt);
     let made = back_permute_z(
         &Sequential,
         alloc,
@@ -106,22 +100,22 @@ fn back_permutes(rt: HostRuntime) -> Result<(), Fail> {
         &index,
         &by,
     );
-    end(&rt, &mut meter, made, &[6, 5, 6, 8])?;
-    begin(&rt)?;
+    end(&rt, &mut meter, made, &[6, 5, 6, 8]);
+    begin(&rt);
     let flags = [true, false, true];
     let made = back_permute_b(&Sequential, alloc, &mut meter, &flags, &source, &index, &by);
-    end(&rt, &mut meter, made, &[false, true, false, true])
+    end(&rt, &mut meter, made, &[false, true, false, true]);
 }
 
 #[test]
-fn packs(rt: HostRuntime) -> Result<(), Fail> {
+fn packs(rt: HostRuntime) {
     let (alloc, mut meter, flags) = (rt.alloc(), Meter::new(), [true, false, true]);
-    let segments = cut(alloc, &[2, 0, 1])?;
+    let segments = cut(&rt, alloc, &[2, 0, 1]);
     assert!(rt; segments.total() == 3);
-    begin(&rt)?;
+    begin(&rt);
     let made = pack_z(&Sequential, alloc, &mut meter, &[5, 6, 8], &flags);
-    end(&rt, &mut meter, made, &[5, 8])?;
-    begin(&rt)?;
+    end(&rt, &mut meter, made, &[5, 8]);
+    begin(&rt);
     let made = pack_b(
         &Sequential,
         alloc,
@@ -129,8 +123,8 @@ fn packs(rt: HostRuntime) -> Result<(), Fail> {
         &[true, false, false],
         &flags,
     );
-    end(&rt, &mut meter, made, &[true, false])?;
-    begin(&rt)?;
+    end(&rt, &mut meter, made, &[true, false]);
+    begin(&rt);
     let made = packed_lengths(&Sequential, alloc, &mut meter, &flags, &segments);
-    end(&rt, &mut meter, made, &[1, 0, 1])
+    end(&rt, &mut meter, made, &[1, 0, 1]);
 }

@@ -8,16 +8,15 @@ use scan_kernels::{
 };
 use std::alloc::{Alloc, Global};
 use std::process::Abort;
-use std::test::Fail;
 
 /// The lengths of the segments.
 const LENGTHS: [i64; 3] = [2, 0, 1];
 
 #[test]
-fn scans(rt: HostRuntime) -> Result<(), Fail> {
-    let (alloc, mut meter, segments) = (rt.alloc(), Meter::new(), cut(rt.alloc(), &LENGTHS)?);
+fn scans(rt: HostRuntime) {
+    let (alloc, mut meter, segments) = (rt.alloc(), Meter::new(), cut(&rt, rt.alloc(), &LENGTHS));
     assert!(rt; segments.total() == 3);
-    begin(&rt)?;
+    begin(&rt);
     let made = scan_z(
         &Sequential,
         alloc,
@@ -26,8 +25,8 @@ fn scans(rt: HostRuntime) -> Result<(), Fail> {
         &[1, 2, 3],
         &segments,
     );
-    end(&rt, &mut meter, made, &[0, 1, 0])?;
-    begin(&rt)?;
+    end(&rt, &mut meter, made, &[0, 1, 0]);
+    begin(&rt);
     let flags = [true, false, true];
     let made = scan_b(
         &Sequential,
@@ -37,14 +36,14 @@ fn scans(rt: HostRuntime) -> Result<(), Fail> {
         &flags,
         &segments,
     );
-    end(&rt, &mut meter, made, &[true, true, true])
+    end(&rt, &mut meter, made, &[true, true, true]);
 }
 
 #[test]
-fn reductions(rt: HostRuntime) -> Result<(), Fail> {
-    let (alloc, mut meter, segments) = (rt.alloc(), Meter::new(), cut(rt.alloc(), &LENGTHS)?);
+fn reductions(rt: HostRuntime) {
+    let (alloc, mut meter, segments) = (rt.alloc(), Meter::new(), cut(&rt, rt.alloc(), &LENGTHS));
     assert!(rt; segments.total() == 3);
-    begin(&rt)?;
+    begin(&rt);
     let made = reduce_z(
         &Sequential,
         alloc,
@@ -53,8 +52,8 @@ fn reductions(rt: HostRuntime) -> Result<(), Fail> {
         &[1, 2, 3],
         &segments,
     );
-    end(&rt, &mut meter, made, &[3, 0, 3])?;
-    begin(&rt)?;
+    end(&rt, &mut meter, made, &[3, 0, 3]);
+    begin(&rt);
     let flags = [true, false, true];
     let made = reduce_b(
         &Sequential,
@@ -64,17 +63,17 @@ fn reductions(rt: HostRuntime) -> Result<(), Fail> {
         &flags,
         &segments,
     );
-    end(&rt, &mut meter, made, &[true, false, true])
+    end(&rt, &mut meter, made, &[true, false, true]);
 }
 
 #[test]
-fn spreads(rt: HostRuntime) -> Result<(), Fail> {
-    let (alloc, mut meter, segments) = (rt.alloc(), Meter::new(), cut(rt.alloc(), &LENGTHS)?);
+fn spreads(rt: HostRuntime) {
+    let (alloc, mut meter, segments) = (rt.alloc(), Meter::new(), cut(&rt, rt.alloc(), &LENGTHS));
     assert!(rt; segments.count() == 3);
-    begin(&rt)?;
+    begin(&rt);
     let made = distribute_z(&Sequential, alloc, &mut meter, &[7, 8, 9], &segments);
-    end(&rt, &mut meter, made, &[7, 7, 9])?;
-    begin(&rt)?;
+    end(&rt, &mut meter, made, &[7, 7, 9]);
+    begin(&rt);
     let made = distribute_b(
         &Sequential,
         alloc,
@@ -82,8 +81,8 @@ fn spreads(rt: HostRuntime) -> Result<(), Fail> {
         &[true, false, false],
         &segments,
     );
-    end(&rt, &mut meter, made, &[true, true, false])?;
-    begin(&rt)?;
+    end(&rt, &mut meter, made, &[true, true, false]);
+    begin(&rt);
     let made = index(
         &Sequential,
         alloc,
@@ -92,5 +91,5 @@ fn spreads(rt: HostRuntime) -> Result<(), Fail> {
         &[10, 20, 30],
         &segments,
     );
-    end(&rt, &mut meter, made, &[1, 11, 3])
+    end(&rt, &mut meter, made, &[1, 11, 3]);
 }
