@@ -3,6 +3,8 @@
 #![tactic(auto)]
 
 #[cfg(test)]
+mod by_chunks;
+#[cfg(test)]
 mod cut;
 #[cfg(test)]
 mod kernels;

@@ -1,13 +1,14 @@
 //! Kernels in chunks of 1, 2, 7 and 4,096 items: in threads into fresh memory, and one chunk after another over a vector
 //! that was kept.
 
+use crate::by_chunks::{assert_both, by_chunks, kept};
 use crate::cut::cut;
 use crate::made::is_made;
 use scan_kernels::{
-    B1, B2, Cmp, Kept, Meter, ScanB, ScanZ, Sequential, Z1, Z2, compare2, distribute_b,
-    distribute_z, index, index_whole, map1_b, map1_z, map2_b, map2_z, number, reduce_b,
-    reduce_whole_b, reduce_whole_z, reduce_z, repeat_b, repeat_z, scan_b, scan_whole_b,
-    scan_whole_z, scan_z, select_b, select_z, truth,
+    B1, B2, Cmp, Meter, ScanB, ScanZ, Sequential, Z1, Z2, compare2, distribute_b, distribute_z,
+    index, index_whole, map1_b, map1_z, map2_b, map2_z, number, reduce_b, reduce_whole_b,
+    reduce_whole_z, reduce_z, repeat_b, repeat_z, scan_b, scan_whole_b, scan_whole_z, scan_z,
+    select_b, select_z, truth,
 };
 use std::process::Abort;
 
@@ -25,21 +26,6 @@ const OTHERS: [bool; 10] = [
 
 /// The lengths of segments, with empty ones at the beginning, between others, and where chunks of two end.
 const LENGTHS: [i64; 7] = [0, 3, 1, 0, 4, 0, 2];
-
-/// Runs a kernel in chunks of each size, both ways, beside what is wanted.
-macro_rules! by_chunks {
-    ($rt:ident, $old:expr, $wanted:expr, $kernel:ident $(, $operand:expr)*) => {
-        for chunk in [1, 2, 7, 4_096] {
-            let mut meter = Meter::with_chunk(chunk);
-            let fresh = $kernel(&$rt, $rt.alloc(), &mut meter $(, $operand)*);
-            assert!($rt; is_made(fresh, $wanted.as_slice()), "chunk {chunk}");
-            let kept = Kept::new(vec![in $rt.alloc(); $old; $wanted.len()].expect(&$rt, "memory"));
-            let over = $kernel(&Sequential, kept, &mut meter $(, $operand)*);
-            assert!($rt; is_made(over, $wanted.as_slice()), "chunk {chunk}");
-            assert!($rt; meter.runs() == 2);
-        }
-    };
-}
 
 #[test]
 fn subtracts(rt: HostRuntime) {

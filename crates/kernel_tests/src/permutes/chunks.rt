@@ -1,14 +1,14 @@
 //! Kernels in chunks of 1, 2, 7 and 4,096 items: in threads into fresh memory, and one chunk after another over a vector that
 //! was kept.
 
+use crate::by_chunks::{assert_both, by_chunks, kept};
 use crate::cut::cut;
-use crate::made::is_made;
 use permute_kernels::{
     are_places, back_permute_b, back_permute_z, gather_b, gather_z, in_range, is_permutation,
     is_whole_permutation, pack_b, pack_z, packed_lengths, permute_b, permute_whole_b,
     permute_whole_z, permute_z,
 };
-use scan_kernels::{Kept, Meter, Sequential};
+use scan_kernels::{Meter, Sequential};
 use std::process::Abort;
 
 const ITEMS: [i64; 10] = [3, -4, 0, 7, 1, -9, 5, 2, 8, -6];
@@ -16,21 +16,6 @@ const ITEMS: [i64; 10] = [3, -4, 0, 7, 1, -9, 5, 2, 8, -6];
 const FLAGS: [bool; 10] = [
     true, false, false, true, true, false, true, false, false, true,
 ];
-
-/// Runs a kernel in chunks of each size, both ways, beside what is wanted.
-macro_rules! by_chunks {
-    ($rt:ident, $old:expr, $wanted:expr, $kernel:ident $(, $operand:expr)*) => {
-        for chunk in [1, 2, 7, 4_096] {
-            let mut meter = Meter::with_chunk(chunk);
-            let fresh = $kernel(&$rt, $rt.alloc(), &mut meter $(, $operand)*);
-            assert!($rt; is_made(fresh, $wanted.as_slice()), "chunk {chunk}");
-            let kept = Kept::new(vec![in $rt.alloc(); $old; $wanted.len()].expect(&$rt, "memory"));
-            let over = $kernel(&Sequential, kept, &mut meter $(, $operand)*);
-            assert!($rt; is_made(over, $wanted.as_slice()), "chunk {chunk}");
-            assert!($rt; meter.runs() == 2);
-        }
-    };
-}
 
 #[test]
 fn gathers_integers(rt: HostRuntime) {
