@@ -101,16 +101,14 @@ fn set(book: &mut Book, alloc: Global, to: Name, items: Vec<i64>) -> Option<()> 
     Some(())
 }
 
-/// A book in which the names of the calls have values, with space for so many entries more.
-fn book_of(alloc: Global, calls: &Calls, items: u32, space: u32) -> Option<Book> {
-    let mut book = Book::new(alloc, ROOM).ok()?;
-    set(&mut book, alloc, calls.left, numbers(alloc, items, 0, 7)?)?;
-    set(&mut book, alloc, calls.right, numbers(alloc, items, 1, 3)?)?;
+/// Gives the names of the calls values, and makes space for so many entries more.
+fn prepare(alloc: Global, book: &mut Book, calls: &Calls, items: u32, space: u32) -> Option<()> {
+    set(book, alloc, calls.left, numbers(alloc, items, 0, 7)?)?;
+    set(book, alloc, calls.right, numbers(alloc, items, 1, 3)?)?;
     for to in &calls.targets {
-        set(&mut book, alloc, *to, numbers(alloc, items, 0, 0)?)?;
+        set(book, alloc, *to, numbers(alloc, items, 0, 0)?)?;
     }
-    book.reserve(space as usize).ok()?;
-    Some(book)
+    book.reserve(space as usize).ok()
 }
 
 /// The requests of the calls, of a caller each.
@@ -175,7 +173,30 @@ fn serve(alloc: Global, book: &mut Book, calls: &Calls, way: Way, lists: &mut Li
     Some(())
 }
 
-/// The time of so many rounds of the calls, in nanoseconds, on a book of their own; four seconds where it is longer.
+/// Serves the calls once on a new book, and then so many rounds of them: the time of these in nanoseconds; four seconds where it
+/// is longer.
+fn time_on(
+    rt: &impl Clock,
+    alloc: Global,
+    book: &mut Book,
+    calls: &Calls,
+    items: u32,
+    rounds: u32,
+    way: Way,
+    lists: &mut Lists,
+) -> Option<u32> {
+    let space = rounds.saturating_add(1).saturating_mul(BATCH_LIMIT as u32);
+    prepare(alloc, book, calls, items, space)?;
+    serve(alloc, book, calls, way, lists)?;
+    let start = Instant::now(rt).ok()?;
+    for _ in 0..rounds {
+        serve(alloc, book, calls, way, lists)?;
+    }
+    let taken = start.elapsed(rt).ok()?;
+    Some(u32::try_from(taken.as_nanos()).unwrap_or(u32::MAX))
+}
+
+/// The time of so many rounds of the calls, in nanoseconds, on a book of their own.
 fn time(
     rt: &impl Clock,
     alloc: Global,
@@ -185,15 +206,8 @@ fn time(
     way: Way,
     lists: &mut Lists,
 ) -> Option<u32> {
-    let space = rounds.saturating_add(1).saturating_mul(BATCH_LIMIT as u32);
-    let mut book = book_of(alloc, calls, items, space)?;
-    serve(alloc, &mut book, calls, way, lists)?;
-    let start = Instant::now(rt).ok()?;
-    for _ in 0..rounds {
-        serve(alloc, &mut book, calls, way, lists)?;
-    }
-    let taken = start.elapsed(rt).ok()?;
-    Some(u32::try_from(taken.as_nanos()).unwrap_or(u32::MAX))
+    let mut book = Book::new(alloc, ROOM).ok()?;
+    time_on(rt, alloc, &mut book, calls, items, rounds, way, lists)
 }
 
 /// The least times of one call in a batch of so many and by itself, in nanoseconds.

@@ -54,21 +54,43 @@ fn serve(
     Some(())
 }
 
-/// Nanoseconds a call, of the calls that are timed together.
-fn time(rt: &impl Clock, alloc: Global, size: u32, items: u32) -> Option<f64> {
-    let (x, y) = (name(b'x', 0)?, name(b'y', 0)?);
-    let mut book = Book::new(alloc, ROOM).ok()?;
-    set(&mut book, alloc, x, numbers(alloc, items, 0, 0)?)?;
-    set(&mut book, alloc, y, numbers(alloc, items, 1, 7)?)?;
-    book.reserve(TIMED as usize).ok()?;
+/// Gives both names so many items, and makes space for the calls that are timed together.
+fn prepare(alloc: Global, book: &mut Book, items: u32, x: Name, y: Name) -> Option<()> {
+    set(book, alloc, x, numbers(alloc, items, 0, 0)?)?;
+    set(book, alloc, y, numbers(alloc, items, 1, 7)?)?;
+    book.reserve(TIMED as usize).ok()
+}
+
+/// Serves the calls that are timed together: the time in nanoseconds; four seconds where it is longer.
+fn serve_all(
+    rt: &impl Clock,
+    alloc: Global,
+    book: &mut Book,
+    size: u32,
+    x: Name,
+    y: Name,
+) -> Option<u32> {
     let mut meter = Meter::new();
     let then = Instant::now(rt).ok()?;
     for _ in 0..TIMED / size.max(1) {
-        serve(alloc, &mut book, &mut meter, size, x, y)?;
+        serve(alloc, book, &mut meter, size, x, y)?;
     }
     let time = then.elapsed(rt).ok()?;
-    let nanoseconds = u32::try_from(time.as_nanos()).unwrap_or(u32::MAX);
+    Some(u32::try_from(time.as_nanos()).unwrap_or(u32::MAX))
+}
+
+/// Nanoseconds a call, of the calls that are timed together on a new book.
+fn time_on(rt: &impl Clock, alloc: Global, book: &mut Book, size: u32, items: u32) -> Option<f64> {
+    let (x, y) = (name(b'x', 0)?, name(b'y', 0)?);
+    prepare(alloc, book, items, x, y)?;
+    let nanoseconds = serve_all(rt, alloc, book, size, x, y)?;
     Some(f64::from(nanoseconds) / f64::from(TIMED))
+}
+
+/// Nanoseconds a call on a book of its own.
+fn time(rt: &impl Clock, alloc: Global, size: u32, items: u32) -> Option<f64> {
+    let mut book = Book::new(alloc, ROOM).ok()?;
+    time_on(rt, alloc, &mut book, size, items)
 }
 
 /// Prints `blocks TAB len=items block=calls TAB cvl TAB nanoseconds a call`.

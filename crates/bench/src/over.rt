@@ -55,16 +55,13 @@ fn time(rt: &impl Clock, alloc: Global, book: &mut Book, line: &str) -> io::Resu
     Ok(u32::try_from(elapsed).unwrap_or(u32::MAX))
 }
 
-/// A book with two vectors of so many items.
-fn book_of(rt: &impl Clock, alloc: Global, size: u32) -> io::Result<Book> {
-    let Ok(mut book) = Book::new(alloc, ROOM) else {
-        return Err(io::Error::from(ErrorKind::OutOfMemory));
-    };
+/// Sets two vectors of so many items.
+fn set(rt: &impl Clock, alloc: Global, book: &mut Book, size: u32) -> io::Result<()> {
     let first = format!(in alloc; "a = ind_luz 0 1 {size}")?;
+    time(rt, alloc, book, first.as_str())?;
     let second = format!(in alloc; "b = dis_vuz 7 {size}")?;
-    time(rt, alloc, &mut book, first.as_str())?;
-    time(rt, alloc, &mut book, second.as_str())?;
-    Ok(book)
+    time(rt, alloc, book, second.as_str())?;
+    Ok(())
 }
 
 /// The least time of both ways, in nanoseconds.
@@ -78,12 +75,31 @@ fn least(rt: &impl Clock, alloc: Global, book: &mut Book, row: &Row) -> io::Resu
     Ok(least)
 }
 
+/// The least times on a new book with two vectors of so many items.
+fn least_on(
+    rt: &impl Clock,
+    alloc: Global,
+    book: &mut Book,
+    row: &Row,
+    size: u32,
+) -> io::Result<(u32, u32)> {
+    set(rt, alloc, book, size)?;
+    least(rt, alloc, book, row)
+}
+
+/// The least times on a book of their own.
+fn least_of(rt: &impl Clock, alloc: Global, row: &Row, size: u32) -> io::Result<(u32, u32)> {
+    let Ok(mut book) = Book::new(alloc, ROOM) else {
+        return Err(io::Error::from(ErrorKind::OutOfMemory));
+    };
+    least_on(rt, alloc, &mut book, row, size)
+}
+
 /// Prints for each number of items the nanoseconds of a call either way.
 pub fn rows<R: Alloc<A = Global> + Clock + Print>(rt: &R) -> io::Result<()> {
     for row in &ROWS {
         for size in SIZES {
-            let mut book = book_of(rt, rt.alloc(), size)?;
-            let (over, kept) = least(rt, rt.alloc(), &mut book, row)?;
+            let (over, kept) = least_of(rt, rt.alloc(), row, size)?;
             let name = row.name;
             println!(rt; "over\t{name}/{size}\tover an operand\t{over}")?;
             println!(rt; "over\t{name}/{size}\tinto a kept vector\t{kept}")?;
