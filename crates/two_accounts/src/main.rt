@@ -2,7 +2,7 @@
 //! a block. No sum that is read tells of a move half done.
 #![tactic(auto)]
 
-ghost use Rattle.std.specs.Prelude.{◌≡◌};
+ghost use Rattle.std.specs.Prelude.{◌≡◌, IfSome};
 ghost use Rattle.combiner.specs.Standing.{IsIdle};
 
 use call_history::BLOCK_LIMIT;
@@ -96,11 +96,17 @@ fn work<R: Alloc<A = Global> + Threads + Wait + Sync>(
     (caller, whole)
 }
 
-/// Runs the two threads: how often the sum was read, and how many calls the history has.
-fn run<R: Alloc<A = Global> + Threads + Wait + Sync>(rt: &R) -> Option<(u32, usize)> {
-    let (machine, mut callers) = Shared::new(rt.alloc(), 2, 1000).ok()?;
-    let shared = &machine;
-    let (second, mut first) = (callers.pop()?, callers.pop()?);
+/// Has the callers work, each in a thread of its own: how often the sum was read, and a caller that has met the other.
+fn work_both<R: Alloc<A = Global> + Threads + Wait + Sync>(
+    rt: &R,
+    shared: &Shared,
+    mut first: Caller,
+    second: Caller,
+) -> Option<(u32, Caller)>
+    requires first { (first.machine ≡ shared.now) × IsIdle first }
+    requires second { (second.machine ≡ shared.now) × IsIdle second }
+    ensures { IfSome result (λ done. done.1.machine ≡ shared.now) }
+{
     ask(rt, shared, &mut first, OPENING)?;
     let ((mut first, one), (mut second, other)) = join(
         rt,
@@ -114,7 +120,15 @@ fn run<R: Alloc<A = Global> + Threads + Wait + Sync>(rt: &R) -> Option<(u32, usi
         { work(rt, shared, second, FROM_B) },
     );
     shared.meet(&mut first, &mut second);
-    Some((one.wrapping_add(other), machine.close(second).ok()?.len()))
+    Some((one.wrapping_add(other), second))
+}
+
+/// Runs the two threads: how often the sum was read, and how many calls the history has.
+fn run<R: Alloc<A = Global> + Threads + Wait + Sync>(rt: &R) -> Option<(u32, usize)> {
+    let (machine, mut callers) = Shared::new(rt.alloc(), 2, 1000).ok()?;
+    let (second, first) = (callers.pop()?, callers.pop()?);
+    let (whole, last) = work_both(rt, &machine, first, second)?;
+    Some((whole, machine.close(last).ok()?.len()))
 }
 
 fn main(rt: HostRuntime) -> io::Result<()> {

@@ -2,7 +2,7 @@
 //! same, whatever calls of the one came between those of the other.
 #![tactic(auto)]
 
-ghost use Rattle.std.specs.Prelude.{◌≡◌};
+ghost use Rattle.std.specs.Prelude.{◌≡◌, IfSome};
 ghost use Rattle.combiner.specs.Standing.{IsIdle};
 
 use combiner::{Caller, Shared};
@@ -50,11 +50,17 @@ fn work<R: Alloc<A = Global> + Threads + Wait + Sync>(
     (caller, all_done)
 }
 
-/// Runs the two threads: the sum of the total's items, and how many calls the history has.
-fn run<R: Alloc<A = Global> + Threads + Wait + Sync>(rt: &R) -> Option<(i64, usize)> {
-    let (machine, mut callers) = Shared::new(rt.alloc(), 2, 1000).ok()?;
-    let shared = &machine;
-    let (second, mut first) = (callers.pop()?, callers.pop()?);
+/// Has the callers work, each in a thread of its own: the sum of the total's items, and a caller that has met the other.
+fn work_both<R: Alloc<A = Global> + Threads + Wait + Sync>(
+    rt: &R,
+    shared: &Shared,
+    mut first: Caller,
+    second: Caller,
+) -> Option<(i64, Caller)>
+    requires first { (first.machine ≡ shared.now) × IsIdle first }
+    requires second { (second.machine ≡ shared.now) × IsIdle second }
+    ensures { IfSome result (λ done. done.1.machine ≡ shared.now) }
+{
     ask(rt, shared, &mut first, "total = z 0 0")?;
     let ((mut first, true), (mut second, true)) = join(
         rt,
@@ -73,7 +79,15 @@ fn run<R: Alloc<A = Global> + Threads + Wait + Sync>(rt: &R) -> Option<(i64, usi
     let Reply::Int(sum) = ask(rt, shared, &mut second, "add_ruz total")? else {
         return None;
     };
-    Some((sum, machine.close(second).ok()?.len()))
+    Some((sum, second))
+}
+
+/// Runs the two threads: the sum of the total's items, and how many calls the history has.
+fn run<R: Alloc<A = Global> + Threads + Wait + Sync>(rt: &R) -> Option<(i64, usize)> {
+    let (machine, mut callers) = Shared::new(rt.alloc(), 2, 1000).ok()?;
+    let (second, first) = (callers.pop()?, callers.pop()?);
+    let (sum, last) = work_both(rt, &machine, first, second)?;
+    Some((sum, machine.close(last).ok()?.len()))
 }
 
 fn main(rt: HostRuntime) -> io::Result<()> {
