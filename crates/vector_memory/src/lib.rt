@@ -3,16 +3,18 @@
 #![tactic(auto)]
 
 mod block;
+mod bounds;
+mod edition;
 mod entries;
 pub mod laws;
 mod memory;
 mod name;
 mod value;
 
+pub use bounds::Bounds;
+pub use edition::{Edition, ITEM_LIMIT, LARGE_ITEM_LIMIT};
 pub use entries::Entries;
-pub use memory::{
-    CHANGE_LIMIT, ITEM_LIMIT, Memory, NAME_LIMIT, ROOM_LIMIT, StoreFault, is_lawful_room,
-};
+pub use memory::{CHANGE_LIMIT, Memory, NAME_LIMIT, ROOM_LIMIT, StoreFault, is_lawful_room};
 pub use name::Name;
 pub use segment_desc::OutOfMemory;
 pub use value::Value;

@@ -10,17 +10,14 @@ ghost use Rattle.vector_memory.specs.Insides.{refusal_by};
 ghost use Rattle.vector_memory.specs.States.{IsLawfulRoom};
 
 use crate::block::Block;
-use crate::{Entries, Name, Value};
+use crate::edition::Limit;
+use crate::{Bounds, Edition, Entries, Name, Value};
 use indexmap::IndexMap;
 use segment_desc::OutOfMemory;
 use std::alloc::Global;
 use std::marker::Model;
 use std::mem;
 use thiserror::Error;
-
-/// The limit of a memory as it is made: the greatest number of items of a value, and the greatest sum of the lengths of a
-/// segment list.
-pub const ITEM_LIMIT: usize = 1_048_576;
 
 /// The greatest room of a memory.
 pub const ROOM_LIMIT: u64 = 67_108_864;
@@ -70,7 +67,7 @@ pub struct Memory {
     values: IndexMap<Name, Value>,
     cells: usize,
     room: u64,
-    limit: usize,
+    limit: Limit,
     /// What a block that is under way has changed.
     block: Block,
 }
@@ -89,19 +86,29 @@ impl Model for Memory {
 }
 
 impl Memory {
-    ghost use Rattle.vector_memory.specs.States.{State, IsLawful, IsLawfulRoom, IsJudged, MayChange, begun, change_limit, changes_left, ended, undone, empty, value_at, cells_of, cells_after, refusal, put, without, contents, FitsLimits};
+    ghost use Rattle.vector_memory.specs.Editions.{item_limit};
+    ghost use Rattle.vector_memory.specs.States.{State, IsLawful, IsLawfulRoom, IsJudged, MayChange, begun, bounds_in, bounds_of, change_limit, changes_left, ended, undone, empty, value_at, cells_of, cells_after, refusal, put, without, contents, FitsLimits};
 
-    /// A memory without values, for values of up to `room` items together, from 1 to `ROOM_LIMIT`, and of up to `ITEM_LIMIT`
-    /// items each.
+    /// A memory of edition 1 without values, for values of up to `room` items together, from 1 to `ROOM_LIMIT`, and of up to
+    /// `ITEM_LIMIT` items each.
     pub fn new(alloc: Global, room: u64) -> Result<Memory, OutOfMemory>
         requires { IsLawfulRoom room }
-        ensures { IfOk result (λ memory. memory ≡ empty room) }
+        ensures { IfOk result (λ memory. memory ≡ empty (bounds_in Edition.One room)) }
+    {
+        Memory::with_edition(alloc, room, Edition::One)
+    }
+
+    /// A memory of an edition without values, for values of up to `room` items together, from 1 to `ROOM_LIMIT`, and of up to as
+    /// many items each as the edition says.
+    pub fn with_edition(alloc: Global, room: u64, edition: Edition) -> Result<Memory, OutOfMemory>
+        requires { IsLawfulRoom room }
+        ensures { IfOk result (λ memory. memory ≡ empty (bounds_in edition room)) }
     {
         Ok(Memory {
             values: IndexMap::with_capacity(alloc, FIRST_NAMES)?,
             cells: 0,
             room,
-            limit: ITEM_LIMIT,
+            limit: Limit { edition },
             block: Block::none(alloc),
         })
     }
@@ -162,7 +169,24 @@ impl Memory {
     pub fn limit(&self) -> usize
         ensures { result ≡ self.now.limit }
     {
-        self.limit
+        self.limit.items()
+    }
+
+    /// The edition that the memory was made with.
+    pub fn edition(&self) -> Edition
+        ensures { item_limit result ≡ self.now.limit }
+    {
+        self.limit.edition()
+    }
+
+    /// How much the memory may hold.
+    pub fn bounds(&self) -> Bounds
+        ensures { result ≡ bounds_of self.now }
+    {
+        Bounds {
+            room: self.room(),
+            limit: self.limit(),
+        }
     }
 
     /// The values with their names, in the order in which the names came. No name comes twice.
