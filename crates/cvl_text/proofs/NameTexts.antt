@@ -5,6 +5,8 @@ use Rattle.std.specs.List.{list_all}
 use Rattle.cvl_text.proofs.Truths.{both}
 use Rattle.std.proofs.lemmas.Bool.{and_from, both_ways, ne_eqb}
 use Rattle.std.proofs.lemmas.Option.{cond_some}
+use Rattle.vector_memory.specs.declared.edition.Edition.{Edition}
+use Rattle.vector_memory.specs.Editions.{longest_name}
 use Rattle.vector_memory.specs.declared.name.Name.{Name}
 use Rattle.vector_memory.specs.Names.{is_letter, is_name_byte, is_name, name_of}
 use Rattle.cvl_text.proofs.Spaced.{IsWord}
@@ -22,22 +24,23 @@ none_of test c (b ∷ bs) never h =
     and_from _ _ (not_byte test b c parts.0 never) (none_of test c bs never parts.1)
 
 -- the bytes of a name but one c that no name has
-name_without : (c : ℕ) (w : List ℕ) → is_letter c ≡ false → is_name_byte c ≡ false → is_name w ≡ true → list_all (λ b. not (eqb b c)) w ≡ true
-name_without c [] no_letter no_byte h = absurd cc
-name_without c (b ∷ bs) no_letter no_byte h =
+name_without : (longest c : ℕ) (w : List ℕ) → is_letter c ≡ false → is_name_byte c ≡ false → is_name longest w ≡ true → list_all (λ b. not (eqb b c)) w ≡ true
+name_without longest c [] no_letter no_byte h = absurd cc
+name_without longest c (b ∷ bs) no_letter no_byte h =
     let parts = both (is_letter b) _ h in
-    let rest = both (nat_lt (length bs) 16) (list_all is_name_byte bs) parts.1 in
+    let rest = both (nat_lt (length bs) longest) (list_all is_name_byte bs) parts.1 in
     and_from _ _ (not_byte is_letter b c parts.0 no_letter) (none_of is_name_byte c bs no_byte rest.1)
 
-name-filled : (w : List ℕ) → is_name w ≡ true → is_filled w ≡ true
-name-filled [] h = absurd cc
-name-filled (b ∷ bs) h = refl
+name-filled : (longest : ℕ) (w : List ℕ) → is_name longest w ≡ true → is_filled w ≡ true
+name-filled longest [] h = absurd cc
+name-filled longest (b ∷ bs) h = refl
 
 -- a name is the text that it was read from
-pub name_of-read : (w : List ℕ) (n : Name) → name_of w ≡ Some n → n ≡ w
-name_of-read w n e = sym (cond_some (is_name w) w n e).1
+pub name_of-read : (edition : Edition) (w : List ℕ) (n : Name) → name_of edition w ≡ Some n → n ≡ w
+name_of-read edition w n e = sym (cond_some (is_name (longest_name edition) w) w n e).1
 
-pub IsWord-name : (w : List ℕ) (n : Name) → name_of w ≡ Some n → IsWord w
-IsWord-name w n e =
-    let read = cond_some (is_name w) w n e in
-    record { filled = name-filled w read.0; solid = name_without 32 w refl refl read.0 }
+pub IsWord-name : (edition : Edition) (w : List ℕ) (n : Name) → name_of edition w ≡ Some n → IsWord w
+IsWord-name edition w n e =
+    let longest = longest_name edition in
+    let read = cond_some (is_name longest w) w n e in
+    record { filled = name-filled longest w read.0; solid = name_without longest 32 w refl refl read.0 }

@@ -1,5 +1,6 @@
--- The grammar of a call: its words, and the task that they ask for. A word stands by its place alone: `z = z 1` sets z.
+-- The grammar of a call in an edition: its words, and the task that they ask for. A word stands by its place alone: `z = z 1` sets z.
 use Rattle.std.specs.Prelude.{◌≡◌, ℕ, Bool, true, false, List, [], ◌∷◌, Option, Some, None, IsSome, Result, Ok, Err, option_and_then, if◌then◌else◌, codes}
+use Rattle.vector_memory.specs.declared.edition.Edition.{Edition}
 use Rattle.vector_memory.specs.declared.name.Name.{Name}
 use Rattle.vector_memory.specs.Names.{name_of}
 use Rattle.cvl_text.specs.declared.fault.ReadFault.{ReadFault}
@@ -59,64 +60,64 @@ only [] = None
 only (x ∷ []) = Some x
 only (x ∷ y ∷ xs) = None
 
--- the arguments that words spell
-abbrev pub arguments_in : List ArgumentKind → List (List ℕ) → Option (List Argument)
-arguments_in [] [] = Some []
-arguments_in [] (w ∷ ws) = None
-arguments_in (NameKind ∷ kinds) [] = None
-arguments_in (NameKind ∷ kinds) (w ∷ ws) = do
-  name ← name_of w
-  others ← arguments_in kinds ws
+-- the arguments that words spell in an edition, which says how long names may be
+abbrev pub arguments_in : Edition → List ArgumentKind → List (List ℕ) → Option (List Argument)
+arguments_in edition [] [] = Some []
+arguments_in edition [] (w ∷ ws) = None
+arguments_in edition (NameKind ∷ kinds) [] = None
+arguments_in edition (NameKind ∷ kinds) (w ∷ ws) = do
+  name ← name_of edition w
+  others ← arguments_in edition kinds ws
   Some (Vector name ∷ others)
-arguments_in (NumberKind ∷ kinds) [] = None
-arguments_in (NumberKind ∷ kinds) (w ∷ ws) = do
+arguments_in edition (NumberKind ∷ kinds) [] = None
+arguments_in edition (NumberKind ∷ kinds) (w ∷ ws) = do
   number ← number_of w
-  others ← arguments_in kinds ws
+  others ← arguments_in edition kinds ws
   Some (Number number ∷ others)
-arguments_in (TruthKind ∷ kinds) [] = None
-arguments_in (TruthKind ∷ kinds) (w ∷ ws) = do
+arguments_in edition (TruthKind ∷ kinds) [] = None
+arguments_in edition (TruthKind ∷ kinds) (w ∷ ws) = do
   truth ← truth_of w
-  others ← arguments_in kinds ws
+  others ← arguments_in edition kinds ws
   Some (Truth truth ∷ others)
-arguments_in (NumbersKind ∷ kinds) ws = do
+arguments_in edition (NumbersKind ∷ kinds) ws = do
   numbers ← all_of number_of ws
   Some (Numbers numbers ∷ [])
-arguments_in (TruthsKind ∷ kinds) ws = do
+arguments_in edition (TruthsKind ∷ kinds) ws = do
   truths ← all_of truth_of ws
   Some (Truths truths ∷ [])
 
 -- the task of a word that stands behind `=`
-unfoldable pub targeted : Name → Word → List (List ℕ) → Option Task
-targeted to word ws =
+unfoldable pub targeted : Edition → Name → Word → List (List ℕ) → Option Task
+targeted edition to word ws =
     if is_targeted word then (do
-      arguments ← arguments_in (kinds_of word) ws
+      arguments ← arguments_in edition (kinds_of word) ws
       Some (record { word = word; to = Some to; arguments = arguments })) else None
 
 -- the task of a word that stands first
-unfoldable pub untargeted : Word → List (List ℕ) → Option Task
-untargeted word ws =
+unfoldable pub untargeted : Edition → Word → List (List ℕ) → Option Task
+untargeted edition word ws =
     if is_targeted word then None else (do
-      arguments ← arguments_in (kinds_of word) ws
+      arguments ← arguments_in edition (kinds_of word) ws
       Some (record { word = word; to = None; arguments = arguments }))
 
 -- the task of the words behind the first and `=`
-unfoldable pub behind_target : List ℕ → List (List ℕ) → Option Task
-behind_target to [] = None
-behind_target to (w ∷ ws) = do
-  name ← name_of to
+unfoldable pub behind_target : Edition → List ℕ → List (List ℕ) → Option Task
+behind_target edition to [] = None
+behind_target edition to (w ∷ ws) = do
+  name ← name_of edition to
   word ← word_of w
-  targeted name word ws
+  targeted edition name word ws
 
-unfoldable pub without_target : List ℕ → List (List ℕ) → Option Task
-without_target w ws = do
+unfoldable pub without_target : Edition → List ℕ → List (List ℕ) → Option Task
+without_target edition w ws = do
   word ← word_of w
-  untargeted word ws
+  untargeted edition word ws
 
 -- the task that the words of a call ask for
-unfoldable pub task_in : List (List ℕ) → Option Task
-task_in [] = None
-task_in (w ∷ []) = without_target w []
-task_in (w ∷ v ∷ ws) = if same_text v (codes "=") then behind_target w ws else without_target w (v ∷ ws)
+unfoldable pub task_in : Edition → List (List ℕ) → Option Task
+task_in edition [] = None
+task_in edition (w ∷ []) = without_target edition w []
+task_in edition (w ∷ v ∷ ws) = if same_text v (codes "=") then behind_target edition w ws else without_target edition w (v ∷ ws)
 
 -- What a function read, seen by view, is what the definition says; memory runs out only where there is something to read.
 abbrev pub Reads : {X Y : Type 0} → (X → Y) → Result X ReadFault → Option Y → Type 0

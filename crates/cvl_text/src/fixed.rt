@@ -16,22 +16,22 @@ use crate::fault::ReadFault;
 use crate::named::{call_of_four, call_of_one, call_of_three, call_of_two};
 use crate::word::{Kind, OneWord, ThreeWord, TwoWord};
 use std::alloc::Global;
-use vector_memory::Name;
+use vector_memory::{Edition, Name};
 
 /// One name.
 #[tactic(auto, unfolding(crate::specs::Lines::targeted))]
-pub(crate) fn one(to: Name, word: OneWord, text: &[u8]) -> Option<Call>
-    ensures { option_map task_of result ≡ targeted to (One word) (words_of text.now) }
+pub(crate) fn one(to: Name, word: OneWord, text: &[u8], edition: Edition) -> Option<Call>
+    ensures { option_map task_of result ≡ targeted edition to (One word) (words_of text.now) }
 {
-    Some(call_of_one(to, word, one_name(text)?))
+    Some(call_of_one(to, word, one_name(text, edition)?))
 }
 
 /// Two names.
 #[tactic(auto, unfolding(crate::specs::Lines::targeted))]
-pub(crate) fn two(to: Name, word: TwoWord, text: &[u8]) -> Option<Call>
-    ensures { option_map task_of result ≡ targeted to (Two word) (words_of text.now) }
+pub(crate) fn two(to: Name, word: TwoWord, text: &[u8], edition: Edition) -> Option<Call>
+    ensures { option_map task_of result ≡ targeted edition to (Two word) (words_of text.now) }
 {
-    let (a, b) = two_names(text)?;
+    let (a, b) = two_names(text, edition)?;
     Some(call_of_two(to, word, a, b))
 }
 
@@ -42,63 +42,70 @@ pub(crate) fn three(
     to: Name,
     word: ThreeWord,
     text: &[u8],
+    edition: Edition,
 ) -> Result<Call, ReadFault>
-    ensures { Reads task_of result (targeted to (Three word) (words_of text.now)) }
+    ensures { Reads task_of result (targeted edition to (Three word) (words_of text.now)) }
 {
-    let (a, b, c) = three_names(text).ok_or(ReadFault::BadCall)?;
+    let (a, b, c) = three_names(text, edition).ok_or(ReadFault::BadCall)?;
     call_of_three(alloc, to, word, a, b, c)
 }
 
 /// Four names.
 #[tactic(auto, unfolding(crate::specs::Lines::targeted))]
-pub(crate) fn four(alloc: Global, to: Name, kind: Kind, text: &[u8]) -> Result<Call, ReadFault>
-    ensures { Reads task_of result (targeted to (BckSeg kind) (words_of text.now)) }
+pub(crate) fn four(
+    alloc: Global,
+    to: Name,
+    kind: Kind,
+    text: &[u8],
+    edition: Edition,
+) -> Result<Call, ReadFault>
+    ensures { Reads task_of result (targeted edition to (BckSeg kind) (words_of text.now)) }
 {
-    let (a, s, i, t) = four_names(text).ok_or(ReadFault::BadCall)?;
+    let (a, s, i, t) = four_names(text, edition).ok_or(ReadFault::BadCall)?;
     call_of_four(alloc, to, kind, a, s, i, t)
 }
 
 /// A number.
 #[tactic(auto, unfolding(crate::specs::Lines::targeted))]
-pub(crate) fn alo(to: Name, text: &[u8]) -> Option<Call>
-    ensures { option_map task_of result ≡ targeted to Alo (words_of text.now) }
+pub(crate) fn alo(to: Name, text: &[u8], edition: Edition) -> Option<Call>
+    ensures { option_map task_of result ≡ targeted edition to Alo (words_of text.now) }
 {
-    let n = one_number(text)?;
+    let n = one_number(text, edition)?;
     Some(Call::Alo { to, n })
 }
 
 /// Two numbers.
 #[tactic(auto, unfolding(crate::specs::Lines::targeted))]
-pub(crate) fn dis_z(to: Name, text: &[u8]) -> Option<Call>
-    ensures { option_map task_of result ≡ targeted to DisZ (words_of text.now) }
+pub(crate) fn dis_z(to: Name, text: &[u8], edition: Edition) -> Option<Call>
+    ensures { option_map task_of result ≡ targeted edition to DisZ (words_of text.now) }
 {
-    let (x, n) = two_numbers(text)?;
+    let (x, n) = two_numbers(text, edition)?;
     Some(Call::DisZ { to, x, n })
 }
 
 /// A truth value and a number.
 #[tactic(auto, unfolding(crate::specs::Lines::targeted))]
-pub(crate) fn dis_b(to: Name, text: &[u8]) -> Option<Call>
-    ensures { option_map task_of result ≡ targeted to DisB (words_of text.now) }
+pub(crate) fn dis_b(to: Name, text: &[u8], edition: Edition) -> Option<Call>
+    ensures { option_map task_of result ≡ targeted edition to DisB (words_of text.now) }
 {
-    let (x, n) = truth_and_number(text)?;
+    let (x, n) = truth_and_number(text, edition)?;
     Some(Call::DisB { to, x, n })
 }
 
 /// Three numbers.
 #[tactic(auto, unfolding(crate::specs::Lines::targeted))]
-pub(crate) fn ind(to: Name, text: &[u8]) -> Option<Call>
-    ensures { option_map task_of result ≡ targeted to Ind (words_of text.now) }
+pub(crate) fn ind(to: Name, text: &[u8], edition: Edition) -> Option<Call>
+    ensures { option_map task_of result ≡ targeted edition to Ind (words_of text.now) }
 {
-    let (u, v, n) = three_numbers(text)?;
+    let (u, v, n) = three_numbers(text, edition)?;
     Some(Call::Ind { to, u, v, n })
 }
 
 /// A name and two numbers.
 #[tactic(auto, unfolding(crate::specs::Lines::targeted))]
-pub(crate) fn rep(to: Name, text: &[u8]) -> Option<Call>
-    ensures { option_map task_of result ≡ targeted to Rep (words_of text.now) }
+pub(crate) fn rep(to: Name, text: &[u8], edition: Edition) -> Option<Call>
+    ensures { option_map task_of result ≡ targeted edition to Rep (words_of text.now) }
 {
-    let (a, p, x) = name_and_two_numbers(text)?;
+    let (a, p, x) = name_and_two_numbers(text, edition)?;
     Some(Call::Rep { to, a, p, x })
 }

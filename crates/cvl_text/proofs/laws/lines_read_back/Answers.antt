@@ -8,7 +8,7 @@ use Rattle.cvl_text.proofs.laws.lines_read_back.Goals as goal
 
 pub returns : goal.returns
 returns c = record {
-  exactly = λ line t. (task_in-sound (words_of line) t, λ h. ap task_in h.1 ∙ task_in-complete t h.0);
-  words = λ t h. words_of-spaced (task_words t) (AreWords-task t h);
-  back = λ t h. ap task_in (words_of-spaced (task_words t) (AreWords-task t h)) ∙ task_in-complete t h;
+  exactly = λ edition line t. (task_in-sound edition (words_of line) t, λ h. ap (task_in edition) h.1 ∙ task_in-complete edition t h.0);
+  words = λ edition t h. words_of-spaced (task_words t) (AreWords-task edition t h);
+  back = λ edition t h. ap (task_in edition) (words_of-spaced (task_words t) (AreWords-task edition t h)) ∙ task_in-complete edition t h;
 }
