@@ -2,7 +2,9 @@
 
 ghost use Rattle.std.specs.Prelude.{◌≡◌};
 ghost use Rattle.vector_memory.specs.Editions.{item_limit, longest_name};
+ghost use Rattle.vector_memory.specs.States.{bounds_in};
 
+use crate::Bounds;
 use std::marker::Model;
 
 /// The limit of edition 1: the greatest number of items of a value, and the greatest sum of the lengths of a segment list.
@@ -28,6 +30,16 @@ impl Edition {
         match self {
             Edition::One => ITEM_LIMIT,
             Edition::Two => LARGE_ITEM_LIMIT,
+        }
+    }
+
+    /// The bounds of a memory of the edition, for values of up to `room` items together.
+    pub fn bounds(self, room: u64) -> Bounds
+        ensures { result ≡ bounds_in self room }
+    {
+        Bounds {
+            room,
+            limit: self.limit(),
         }
     }
 
