@@ -9,6 +9,7 @@ mod entries;
 pub mod laws;
 mod memory;
 mod name;
+mod name_text;
 mod value;
 
 pub use bounds::Bounds;
@@ -16,5 +17,6 @@ pub use edition::{Edition, ITEM_LIMIT, LARGE_ITEM_LIMIT};
 pub use entries::Entries;
 pub use memory::{CHANGE_LIMIT, Memory, NAME_LIMIT, ROOM_LIMIT, StoreFault, is_lawful_room};
 pub use name::Name;
+pub use name_text::NameText;
 pub use segment_desc::OutOfMemory;
 pub use value::Value;
