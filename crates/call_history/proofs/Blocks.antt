@@ -2,12 +2,12 @@
 -- entries of a block are one (`Whole-block`), with its calls (`calls-block`). What the calls of a history make of a memory and answer
 -- (`replay_from-after`, `replies_from-to`), and that a block leads where its replay does (`replay-block`).
 use Rattle.std.proofs.Common.{◌≡◌, ℕ, suc, List, [], ◌∷◌, ◌++◌, length, map, None, cond, refl, sym, ap, ◌∙◌, arith, eq-eqb, ne_eqb, ◌≢◌}
-use Rattle.vector_memory.specs.States.{State, begun, empty, ended, undone}
+use Rattle.vector_memory.specs.declared.bounds.Bounds.{Bounds}
+use Rattle.vector_memory.specs.States.{State, begun, bounds_of, empty, ended, undone}
 use Rattle.cvl_text.specs.declared.call.Call.{Call}
 use Rattle.cvl_text.specs.Tasks.{task_of}
 use Rattle.cvl_text.specs.Answers.{Answer}
 use Rattle.cvl_calls.specs.Steps.{stepped}
-use Rattle.cvl_calls.proofs.BlockSteps.{room-stepped}
 use Rattle.call_history.specs.declared.entry.Entry.{Entry}
 use Rattle.call_history.specs.History.{Begins, call_of, replay, replay_from, replies_from}
 use Rattle.call_history.specs.Answers.{Answers}
@@ -15,7 +15,7 @@ use Rattle.call_history.specs.Callers.{calls_by, entries_by, next_before}
 use Rattle.call_history.specs.Blocks.{IsFollowed, Whole, after, block_entries, replies_to}
 use Rattle.call_history.proofs.Beginnings.{begins_trans}
 use Rattle.call_history.proofs.CallerLemmas.{calls_by-append}
-use Rattle.call_history.proofs.Replays.{replay_from-append}
+use Rattle.call_history.proofs.Replays.{replay_from-append, bounds-stepped}
 
 followed-append : (e : Entry) (xs ys : List Entry) → IsFollowed e xs → IsFollowed e (xs ++ ys)
 followed-append e xs ys followed = λ more. let f = followed more in (f.0, f.1 ++ ys, ap (λ (l : List Entry). l ++ ys) f.2, f.3, f.4)
@@ -49,19 +49,19 @@ pub replies_from-to : (m : State) (es : List Entry) → replies_from m es ≡ re
 replies_from-to m [] = refl
 replies_from-to m (e ∷ es) = ap (λ (l : List Answer). (stepped m (task_of e.call)).answer ∷ l) (replies_from-to (stepped m (task_of e.call)).memory es)
 
-pub room-after : (m : State) (calls : List Call) → (after m calls).room ≡ m.room
-room-after m [] = refl
-room-after m (c ∷ cs) = room-after (stepped m (task_of c)).memory cs ∙ room-stepped m (task_of c)
+pub bounds-after : (m : State) (calls : List Call) → bounds_of (after m calls) ≡ bounds_of m
+bounds-after m [] = refl
+bounds-after m (c ∷ cs) = bounds-after (stepped m (task_of c)).memory cs ∙ bounds-stepped m (task_of c)
 
 -- the calls of a block lead from the memory of a history to that of the history with the block
-pub replay-block : (m next : State) (history : List Entry) (caller : ℕ) (calls : List Call) → m ≡ replay m.room history → next ≡ after m calls → next ≡ replay next.room (history ++ block_entries history caller calls)
+pub replay-block : (m next : State) (history : List Entry) (caller : ℕ) (calls : List Call) → m ≡ replay (bounds_of m) history → next ≡ after m calls → next ≡ replay (bounds_of next) (history ++ block_entries history caller calls)
 replay-block m next history caller calls known leads =
-    let same : next.room ≡ m.room = ap (λ (s : State). s.room) leads ∙ room-after m calls in
+    let same : bounds_of next ≡ bounds_of m = ap bounds_of leads ∙ bounds-after m calls in
     let es = block_entries history caller calls in
-    leads ∙ ap (λ (s : State). after s calls) (known ∙ ap (λ (room : ℕ). replay room history) (sym same))
-    ∙ ap (after (replay next.room history)) (sym (calls-block history caller calls))
-    ∙ sym (replay_from-after (replay next.room history) es)
-    ∙ sym (replay_from-append (empty next.room) history es)
+    leads ∙ ap (λ (s : State). after s calls) (known ∙ ap (λ (bounds : Bounds). replay bounds history) (sym same))
+    ∙ ap (after (replay (bounds_of next) history)) (sym (calls-block history caller calls))
+    ∙ sym (replay_from-after (replay (bounds_of next) history) es)
+    ∙ sym (replay_from-append (empty (bounds_of next)) history es)
 
 -- and answer what its replay answers
 pub replies-block : (m : State) (history : List Entry) (caller : ℕ) (calls : List Call) → replies_to m calls ≡ replies_from m (block_entries history caller calls)
@@ -82,8 +82,8 @@ length-block history caller [] = refl
 length-block history caller (c ∷ cs) = ap suc (length-block (history ++ next_before history caller c (length cs) ∷ []) caller cs)
 
 -- a memory that is another
-pub replayed-same : (m next : State) (history same : List Entry) → m ≡ replay m.room history → next ≡ m → same ≡ history → next ≡ replay next.room same
-replayed-same m next history same known is es = is ∙ known ∙ ap (λ (s : State). replay s.room history) (sym is) ∙ ap (replay next.room) (sym es)
+pub replayed-same : (m next : State) (history same : List Entry) → m ≡ replay (bounds_of m) history → next ≡ m → same ≡ history → next ≡ replay (bounds_of next) same
+replayed-same m next history same known is es = is ∙ known ∙ ap (λ (s : State). replay (bounds_of s) history) (sym is) ∙ ap (replay (bounds_of next)) (sym es)
 
 -- the calls of a block are its caller's, and no other's
 pub calls_by-block : (k : ℕ) (history : List Entry) (calls : List Call) → calls_by k (block_entries history k calls) ≡ calls
@@ -107,9 +107,9 @@ pub Whole-grown : (history : List Entry) (k : ℕ) (calls : List Call) → Whole
 Whole-grown history k calls whole = Whole-append history (block_entries history k calls) whole (Whole-block history k calls)
 
 -- a block is answered behind the history
-pub answers-from_block : (room : ℕ) (seen history : List Entry) (own : List Call) (k : ℕ) (calls : List Call) → Begins seen history → calls_by k history ≡ own → Whole history
-    → Answers room seen own k calls (history ++ block_entries history k calls) (replies_from (replay room history) (block_entries history k calls))
-answers-from_block room seen history own k calls saw had whole =
+pub answers-from_block : (bounds : Bounds) (seen history : List Entry) (own : List Call) (k : ℕ) (calls : List Call) → Begins seen history → calls_by k history ≡ own → Whole history
+    → Answers bounds seen own k calls (history ++ block_entries history k calls) (replies_from (replay bounds history) (block_entries history k calls))
+answers-from_block bounds seen history own k calls saw had whole =
     let block = block_entries history k calls in
     record {
       before = history;

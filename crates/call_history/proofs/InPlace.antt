@@ -3,6 +3,7 @@
 use Rattle.std.proofs.Common.{◌≡◌, ◌≢◌, ◌==◌, ℕ, zero, suc, Bool, true, false, cond, List, [], ◌∷◌, ◌++◌, map, length, take, Option, Some, None, refl, sym, ap, ◌∙◌, subst, eq-eqb, ne_eqb, slice_get, set}
 use mathlib.Core.Logic.{dite}
 use native.Mathlib.Decide.{ℕ_discrete}
+use Rattle.vector_memory.specs.declared.bounds.Bounds.{Bounds}
 use Rattle.call_history.specs.declared.entry.Entry.{Entry}
 use Rattle.call_history.specs.declared.request.Job.{Job}
 use Rattle.call_history.specs.declared.request.Request.{Request}
@@ -14,16 +15,16 @@ use Rattle.call_history.specs.Fits.{request, calls_of, returned, handed_back, Is
 use Rattle.call_history.proofs.Beginnings.{begins_self, begins_trans}
 use Rattle.call_history.proofs.Serving.{back-fate, back-fits, back-of_job, caller_grown, others-behind, stands-behind}
 
-pub fits_returned : (room : ℕ) (history : List Entry) (rs : List Request) → Fits room history rs history (map returned rs)
-fits_returned room history rs = record { grows = begins_self history; each = λ k. each_of k rs }
+pub fits_returned : (bounds : Bounds) (history : List Entry) (rs : List Request) → Fits bounds history rs history (map returned rs)
+fits_returned bounds history rs = record { grows = begins_self history; each = λ k. each_of k rs }
   where
-    each_of : (k : ℕ) (qs : List Request) → FitsCaller room history history k (request_by k qs) (outcome_by k qs (map returned qs))
+    each_of : (k : ℕ) (qs : List Request) → FitsCaller bounds history history k (request_by k qs) (outcome_by k qs (map returned qs))
     each_of k [] = refl
     each_of k (q ∷ qs) = by k q qs (q.caller == k) (each_of k qs)
       where
-        by : (k : ℕ) (q : Request) (qs : List Request) (b : Bool) → FitsCaller room history history k (request_by k qs) (outcome_by k qs (map returned qs))
-            → FitsCaller room history history k (cond b (Some q.job) (request_by k qs)) (cond b (Some (returned q)) (outcome_by k qs (map returned qs)))
-        by k q qs true later = (returned q, refl, back-of_job q.job, back-fits room history history k q.job refl)
+        by : (k : ℕ) (q : Request) (qs : List Request) (b : Bool) → FitsCaller bounds history history k (request_by k qs) (outcome_by k qs (map returned qs))
+            → FitsCaller bounds history history k (cond b (Some q.job) (request_by k qs)) (cond b (Some (returned q)) (outcome_by k qs (map returned qs)))
+        by k q qs true later = (returned q, refl, back-of_job q.job, back-fits bounds history history k q.job refl)
         by k q qs false later = later
 
 later : (b : Bool) (r : Request) (q : Option Job) → cond b (Some r.job) q ≡ None → (b ≡ false) × (q ≡ None)
@@ -66,34 +67,34 @@ slice_get-set (x ∷ os) zero o p h = refl
 slice_get-set (x ∷ os) (suc i) o p h = slice_get-set os i o p h
 
 -- a job that came back is answered behind the history
-pub fits_answered_at : (room : ℕ) (old mid : List Entry) (rs : List Request) (os : List Outcome) (i k : ℕ) (job : Job) (o : Outcome) → IsAskedAt rs i k job → slice_get os i ≡ Some (handed_back job) → IsOfJob job o
-    → fate_of o ≡ StandsAt (length mid) (replies_from (replay room mid) (block_entries mid k (calls_of job))) → Whole mid
-    → Fits room old rs mid os → Fits room old rs (mid ++ block_entries mid k (calls_of job)) (set os i o)
-fits_answered_at room old mid rs os i k job o at was_back kind fate whole f =
+pub fits_answered_at : (bounds : Bounds) (old mid : List Entry) (rs : List Request) (os : List Outcome) (i k : ℕ) (job : Job) (o : Outcome) → IsAskedAt rs i k job → slice_get os i ≡ Some (handed_back job) → IsOfJob job o
+    → fate_of o ≡ StandsAt (length mid) (replies_from (replay bounds mid) (block_entries mid k (calls_of job))) → Whole mid
+    → Fits bounds old rs mid os → Fits bounds old rs (mid ++ block_entries mid k (calls_of job)) (set os i o)
+fits_answered_at bounds old mid rs os i k job o at was_back kind fate whole f =
     let more : List Entry = block_entries mid k (calls_of job) in
     let asks : request_by k rs ≡ Some job = request_by-at k rs i job at.there at.first in
     let was : outcome_by k rs os ≡ Some (handed_back job) = outcome_by-at k rs os i job (handed_back job) at.there at.first was_back in
-    let had : calls_by k mid ≡ calls_by k old = unanswered room old mid k job (subst (λ (z : Option Job × (Option Outcome)). FitsCaller room old mid k z.0 z.1) (λ j. (asks j, was j)) (f.each k)) in
+    let had : calls_by k mid ≡ calls_by k old = unanswered bounds old mid k job (subst (λ (z : Option Job × (Option Outcome)). FitsCaller bounds old mid k z.0 z.1) (λ j. (asks j, was j)) (f.each k)) in
     let now : outcome_by k rs (set os i o) ≡ Some o = outcome_by-at k rs (set os i o) i job o at.there at.first (slice_get-set os i o (handed_back job) was_back) in
-    let own : FitsCaller room old (mid ++ more) k (Some job) (Some o) = (
+    let own : FitsCaller bounds old (mid ++ more) k (Some job) (Some o) = (
       o,
       refl,
       kind,
-      subst (FitsFate room old (mid ++ more) k (calls_of job)) (sym fate) (stands-behind room old mid k (calls_of job) f.grows whole had),
+      subst (FitsFate bounds old (mid ++ more) k (calls_of job)) (sym fate) (stands-behind bounds old mid k (calls_of job) f.grows whole had),
     ) in
-    let others : (j : ℕ) → j ≢ k → FitsCaller room old (mid ++ more) j (request_by j rs) (outcome_by j rs (set os i o)) =
-    λ j other. subst (λ (z : Option Outcome). FitsCaller room old (mid ++ more) j (request_by j rs) z) (sym (outcome_by-set_else j k rs os i job o other at.there))
-    (caller_grown room old mid more j (request_by j rs) (outcome_by j rs os) (others-behind mid j k (calls_of job) (λ e. other (sym e))) (f.each j)) in
+    let others : (j : ℕ) → j ≢ k → FitsCaller bounds old (mid ++ more) j (request_by j rs) (outcome_by j rs (set os i o)) =
+    λ j other. subst (λ (z : Option Outcome). FitsCaller bounds old (mid ++ more) j (request_by j rs) z) (sym (outcome_by-set_else j k rs os i job o other at.there))
+    (caller_grown bounds old mid more j (request_by j rs) (outcome_by j rs os) (others-behind mid j k (calls_of job) (λ e. other (sym e))) (f.each j)) in
     record {
       grows = begins_trans old mid (mid ++ more) f.grows (more, refl);
       each = λ j. dite (ℕ_discrete j k)
-          (λ is. subst (λ (z : ℕ). FitsCaller room old (mid ++ more) z (request_by z rs) (outcome_by z rs (set os i o))) (sym is)
-          (subst (λ (z : Option Job × (Option Outcome)). FitsCaller room old (mid ++ more) k z.0 z.1) (λ j. (sym asks j, sym now j)) own))
+          (λ is. subst (λ (z : ℕ). FitsCaller bounds old (mid ++ more) z (request_by z rs) (outcome_by z rs (set os i o))) (sym is)
+          (subst (λ (z : Option Job × (Option Outcome)). FitsCaller bounds old (mid ++ more) k z.0 z.1) (λ j. (sym asks j, sym now j)) own))
           (others j);
     }
   where
-    unanswered : (room : ℕ) (old mid : List Entry) (k : ℕ) (job : Job) → FitsCaller room old mid k (Some job) (Some (handed_back job)) → calls_by k mid ≡ calls_by k old
-    unanswered room old mid k job f =
+    unanswered : (bounds : Bounds) (old mid : List Entry) (k : ℕ) (job : Job) → FitsCaller bounds old mid k (Some job) (Some (handed_back job)) → calls_by k mid ≡ calls_by k old
+    unanswered bounds old mid k job f =
         let same : f.0 ≡ handed_back job = cc in
         let came : fate_of f.0 ≡ CameBack (calls_of job) = ap fate_of same ∙ back-fate job in
-        (subst (FitsFate room old mid k (calls_of job)) came f.3).0
+        (subst (FitsFate bounds old mid k (calls_of job)) came f.3).0

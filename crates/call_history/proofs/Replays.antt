@@ -1,13 +1,14 @@
--- A replay goes call by call, and keeps the room and the limit.
+-- A replay goes call by call, and keeps the bounds.
 use Rattle.std.proofs.Common.{◌≡◌, ℕ, suc, length, slice_get, List, [], ◌∷◌, ◌++◌, Option, Some, None, refl, sym, ap, ◌∙◌}
 use Rattle.vector_memory.specs.declared.name.Name.{Name}
 use Rattle.vector_memory.specs.Contents.{Content}
-use Rattle.vector_memory.specs.States.{State, empty, put, without}
-use Rattle.cvl_text.specs.Tasks.{task_of}
+use Rattle.vector_memory.specs.States.{State, bounds_of, empty, put, without}
+use Rattle.cvl_text.specs.Tasks.{Task, task_of}
 use Rattle.cvl_calls.specs.Steps.{stepped}
-use Rattle.cvl_calls.proofs.BlockSteps.{room-stepped, stepped-keeps}
+use Rattle.cvl_calls.proofs.BlockSteps.{stepped-keeps}
 use Rattle.call_history.specs.declared.entry.Entry.{Entry}
 use Rattle.std.specs.List.{last_or}
+use Rattle.vector_memory.specs.declared.bounds.Bounds.{Bounds}
 use Rattle.cvl_text.specs.Answers.{Answer}
 use Rattle.call_history.specs.History.{replay_from, replay, replies_from, last_reply, reply_after}
 
@@ -21,18 +22,18 @@ module _ {X : Type 0} (part : State → X) (put-keeps : (m : State) (n : Name) (
   replay_from-keeps m [] = refl
   replay_from-keeps m (e ∷ es) = replay_from-keeps (stepped m (task_of e.call)).memory es ∙ stepped-keeps part put-keeps without-keeps m (task_of e.call)
 
-pub room-replay_from : (m : State) (history : List Entry) → (replay_from m history).room ≡ m.room
-room-replay_from = replay_from-keeps (λ m. m.room) (λ m n v. refl) (λ m n. refl)
+pub bounds-replay_from : (m : State) (history : List Entry) → bounds_of (replay_from m history) ≡ bounds_of m
+bounds-replay_from = replay_from-keeps bounds_of (λ m n v. refl) (λ m n. refl)
 
-pub limit-replay_from : (m : State) (history : List Entry) → (replay_from m history).limit ≡ m.limit
-limit-replay_from = replay_from-keeps (λ m. m.limit) (λ m n v. refl) (λ m n. refl)
+pub bounds-stepped : (m : State) (t : Task) → bounds_of (stepped m t).memory ≡ bounds_of m
+bounds-stepped = stepped-keeps bounds_of (λ m n v. refl) (λ m n. refl)
 
 -- a step from the memory that a history leads to is the next of its replay
-pub replay-push : (m next : State) (history : List Entry) (e : Entry) → m ≡ replay m.room history → (stepped m (task_of e.call)).memory ≡ next → next ≡ replay next.room (history ++ e ∷ [])
+pub replay-push : (m next : State) (history : List Entry) (e : Entry) → m ≡ replay (bounds_of m) history → (stepped m (task_of e.call)).memory ≡ next → next ≡ replay (bounds_of next) (history ++ e ∷ [])
 replay-push m next history e known steps =
-    let same : next.room ≡ m.room = ap (λ s. s.room) (sym steps) ∙ room-stepped m (task_of e.call) in
-    sym steps ∙ (ap (λ s. (stepped s (task_of e.call)).memory) (known ∙ ap (λ room. replay room history) (sym same))
-    ∙ sym (replay_from-append (empty next.room) history (e ∷ [])))
+    let same : bounds_of next ≡ bounds_of m = ap bounds_of (sym steps) ∙ bounds-stepped m (task_of e.call) in
+    sym steps ∙ (ap (λ s. (stepped s (task_of e.call)).memory) (known ∙ ap (λ (bounds : Bounds). replay bounds history) (sym same))
+    ∙ sym (replay_from-append (empty (bounds_of next)) history (e ∷ [])))
 
 pub replies_from-append : (m : State) (xs ys : List Entry) → replies_from m (xs ++ ys) ≡ replies_from m xs ++ replies_from (replay_from m xs) ys
 replies_from-append m [] ys = refl
@@ -46,8 +47,8 @@ last_or-snoc : (o : Option Answer) (xs : List Answer) (x : Answer) → last_or o
 last_or-snoc o [] x = refl
 last_or-snoc o (y ∷ ys) x = last_or-snoc (Some y) ys x
 
-pub last_reply-push : (room : ℕ) (history : List Entry) (e : Entry) → last_reply room (history ++ e ∷ []) ≡ Some (reply_after room history e.call)
-last_reply-push room history e = ap (last_or None) (replies_from-append (empty room) history (e ∷ [])) ∙ last_or-snoc None (replies_from (empty room) history) (reply_after room history e.call)
+pub last_reply-push : (bounds : Bounds) (history : List Entry) (e : Entry) → last_reply bounds (history ++ e ∷ []) ≡ Some (reply_after bounds history e.call)
+last_reply-push bounds history e = ap (last_or None) (replies_from-append (empty bounds) history (e ∷ [])) ∙ last_or-snoc None (replies_from (empty bounds) history) (reply_after bounds history e.call)
 
 -- the reply at each place is the one behind the history before it
 pub reply-at_place : (m : State) (before after : List Entry) (e : Entry)

@@ -5,6 +5,7 @@ use Rattle.std.proofs.Math.Seq.{take-append_seam, drop-append_seam}
 use Rattle.std.proofs.lemmas.List.{take-append-le, drop-append-le}
 use mathlib.Core.Logic.{dite}
 use native.Mathlib.Decide.{ℕ_discrete}
+use Rattle.vector_memory.specs.declared.bounds.Bounds.{Bounds}
 use Rattle.cvl_text.specs.declared.call.Call.{Call}
 use Rattle.cvl_text.specs.Answers.{Answer}
 use Rattle.call_history.specs.declared.entry.Entry.{Entry}
@@ -64,8 +65,8 @@ block_grown mid more place n le =
     let rest : n ≤ length (drop place mid) = omega (arith, length-drop place mid) in
     ap (take n) (drop-append-le place mid more first) ∙ take-append-le n (drop place mid) more rest
 
-serves_grown : (room : ℕ) (old mid more : List Entry) (k : ℕ) (calls : List Call) (place : ℕ) (replies : List Answer) → Serves room old mid k calls place replies → Serves room old (mid ++ more) k calls place replies
-serves_grown room old mid more k calls place replies s =
+serves_grown : (bounds : Bounds) (old mid more : List Entry) (k : ℕ) (calls : List Call) (place : ℕ) (replies : List Answer) → Serves bounds old mid k calls place replies → Serves bounds old (mid ++ more) k calls place replies
+serves_grown bounds old mid more k calls place replies s =
     let within = s.within in
     let first : place ≤ length mid = omega arith in
     let before : take place (mid ++ more) ≡ take place mid = take-append-le place mid more first in
@@ -74,19 +75,19 @@ serves_grown room old mid more k calls place replies s =
       within = omega (arith, length-append mid more);
       entries_are = block_grown mid more place (length calls) s.within ∙ s.entries_are ∙ ap (λ (l : List Entry). block_entries l k calls) (sym before);
       whole = subst Whole (sym (take-append-le (place + length calls) mid more s.within)) s.whole;
-      replies_are = ap (λ (l : List Entry). replies_from (replay room l) (block_entries l k calls)) before ∙ s.replies_are;
+      replies_are = ap (λ (l : List Entry). replies_from (replay bounds l) (block_entries l k calls)) before ∙ s.replies_are;
     }
 
-fate_grown : (room : ℕ) (old mid more : List Entry) (k : ℕ) (calls : List Call) (fate : Fate) → calls_by k (mid ++ more) ≡ calls_by k mid → FitsFate room old mid k calls fate → FitsFate room old (mid ++ more) k calls fate
-fate_grown room old mid more k calls (StandsAt place replies) same f = (same ∙ f.0, serves_grown room old mid more k calls place replies f.1)
-fate_grown room old mid more k calls (CameBack back) same f = (same ∙ f.0, f.1)
+fate_grown : (bounds : Bounds) (old mid more : List Entry) (k : ℕ) (calls : List Call) (fate : Fate) → calls_by k (mid ++ more) ≡ calls_by k mid → FitsFate bounds old mid k calls fate → FitsFate bounds old (mid ++ more) k calls fate
+fate_grown bounds old mid more k calls (StandsAt place replies) same f = (same ∙ f.0, serves_grown bounds old mid more k calls place replies f.1)
+fate_grown bounds old mid more k calls (CameBack back) same f = (same ∙ f.0, f.1)
 
-pub caller_grown : (room : ℕ) (old mid more : List Entry) (k : ℕ) (asked : Option Job) (o : Option Outcome) → calls_by k (mid ++ more) ≡ calls_by k mid → FitsCaller room old mid k asked o → FitsCaller room old (mid ++ more) k asked o
-caller_grown room old mid more k None o same f = same ∙ f
-caller_grown room old mid more k (Some job) o same f = (f.0, f.1, f.2, fate_grown room old mid more k (calls_of job) (fate_of f.0) same f.3)
+pub caller_grown : (bounds : Bounds) (old mid more : List Entry) (k : ℕ) (asked : Option Job) (o : Option Outcome) → calls_by k (mid ++ more) ≡ calls_by k mid → FitsCaller bounds old mid k asked o → FitsCaller bounds old (mid ++ more) k asked o
+caller_grown bounds old mid more k None o same f = same ∙ f
+caller_grown bounds old mid more k (Some job) o same f = (f.0, f.1, f.2, fate_grown bounds old mid more k (calls_of job) (fate_of f.0) same f.3)
 
-pub fits_nothing : (room : ℕ) (history : List Entry) → Fits room history [] history []
-fits_nothing room history = record { grows = begins_self history; each = λ k. refl }
+pub fits_nothing : (bounds : Bounds) (history : List Entry) → Fits bounds history [] history []
+fits_nothing bounds history = record { grows = begins_self history; each = λ k. refl }
 
 -- a job that is back is one of its kind
 pub back-of_job : (job : Job) → IsOfJob job (handed_back job)
@@ -98,14 +99,14 @@ back-fate (One call) = refl
 back-fate (Many calls) = refl
 
 -- a job that is back changed nothing
-pub back-fits : (room : ℕ) (old new : List Entry) (k : ℕ) (job : Job) → calls_by k new ≡ calls_by k old → FitsFate room old new k (calls_of job) (fate_of (handed_back job))
-back-fits room old new k (One call) had = (had, refl)
-back-fits room old new k (Many calls) had = (had, refl)
+pub back-fits : (bounds : Bounds) (old new : List Entry) (k : ℕ) (job : Job) → calls_by k new ≡ calls_by k old → FitsFate bounds old new k (calls_of job) (fate_of (handed_back job))
+back-fits bounds old new k (One call) had = (had, refl)
+back-fits bounds old new k (Many calls) had = (had, refl)
 
 -- a job that is answered behind a history stands there
-pub stands-behind : (room : ℕ) (old mid : List Entry) (k : ℕ) (calls : List Call) → Begins old mid → Whole mid → calls_by k mid ≡ calls_by k old
-    → FitsFate room old (mid ++ block_entries mid k calls) k calls (StandsAt (length mid) (replies_from (replay room mid) (block_entries mid k calls)))
-stands-behind room old mid k calls grows whole had =
+pub stands-behind : (bounds : Bounds) (old mid : List Entry) (k : ℕ) (calls : List Call) → Begins old mid → Whole mid → calls_by k mid ≡ calls_by k old
+    → FitsFate bounds old (mid ++ block_entries mid k calls) k calls (StandsAt (length mid) (replies_from (replay bounds mid) (block_entries mid k calls)))
+stands-behind bounds old mid k calls grows whole had =
     let more : List Entry = block_entries mid k calls in
     let count : length more ≡ length calls = length-block mid k calls in
     let size : length (mid ++ more) ≡ length mid + length calls = length-append mid more ∙ ap (λ (n : ℕ). length mid + n) count in
@@ -119,7 +120,7 @@ stands-behind room old mid k calls grows whole had =
         within = omega (arith, size);
         entries_are = there ∙ ap (λ (l : List Entry). block_entries l k calls) (sym first);
         whole = subst Whole (sym all) (Whole-grown mid k calls whole);
-        replies_are = ap (λ (l : List Entry). replies_from (replay room l) (block_entries l k calls)) first;
+        replies_are = ap (λ (l : List Entry). replies_from (replay bounds l) (block_entries l k calls)) first;
       },
     )
   where
@@ -133,43 +134,43 @@ others-behind mid j k calls other =
     calls_by-append j mid (block_entries mid k calls) ∙ (ap (λ l. calls_by j mid ++ l) (calls_by-block_other j k other mid calls) ∙ append-nil (calls_by j mid))
 
 -- the outcome of a request that is put last
-fits_pushed : (room : ℕ) (old new : List Entry) (rs : List Request) (os : List Outcome) (k : ℕ) (job : Job) (o : Outcome) → length os ≡ length rs → request_by k rs ≡ None → IsOfJob job o
-    → FitsFate room old new k (calls_of job) (fate_of o) → ((j : ℕ) → j ≢ k → FitsCaller room old new j (request_by j rs) (outcome_by j rs os))
-    → (j : ℕ) → FitsCaller room old new j (request_by j (rs ++ request k job ∷ [])) (outcome_by j (rs ++ request k job ∷ []) (os ++ o ∷ []))
-fits_pushed room old new rs os k job o same fresh kind mine others j = dite (ℕ_discrete j k)
-    (λ is. subst (λ (z : ℕ). FitsCaller room old new z (request_by z (rs ++ request k job ∷ [])) (outcome_by z (rs ++ request k job ∷ []) (os ++ o ∷ []))) (sym is)
-    (subst (λ (q : Option Job). FitsCaller room old new k q (outcome_by k (rs ++ request k job ∷ []) (os ++ o ∷ []))) (sym (request_by-push k rs job fresh)) (o, outcome_by-push k rs os job o same fresh, kind, mine)))
-    (λ other. subst (λ (z : Option Job × (Option Outcome)). FitsCaller room old new j z.0 z.1) (λ i. (sym (request_by-push_else j k rs job other) i, sym (outcome_by-push_else j k rs os job o same other) i)) (others j other))
+fits_pushed : (bounds : Bounds) (old new : List Entry) (rs : List Request) (os : List Outcome) (k : ℕ) (job : Job) (o : Outcome) → length os ≡ length rs → request_by k rs ≡ None → IsOfJob job o
+    → FitsFate bounds old new k (calls_of job) (fate_of o) → ((j : ℕ) → j ≢ k → FitsCaller bounds old new j (request_by j rs) (outcome_by j rs os))
+    → (j : ℕ) → FitsCaller bounds old new j (request_by j (rs ++ request k job ∷ [])) (outcome_by j (rs ++ request k job ∷ []) (os ++ o ∷ []))
+fits_pushed bounds old new rs os k job o same fresh kind mine others j = dite (ℕ_discrete j k)
+    (λ is. subst (λ (z : ℕ). FitsCaller bounds old new z (request_by z (rs ++ request k job ∷ [])) (outcome_by z (rs ++ request k job ∷ []) (os ++ o ∷ []))) (sym is)
+    (subst (λ (q : Option Job). FitsCaller bounds old new k q (outcome_by k (rs ++ request k job ∷ []) (os ++ o ∷ []))) (sym (request_by-push k rs job fresh)) (o, outcome_by-push k rs os job o same fresh, kind, mine)))
+    (λ other. subst (λ (z : Option Job × (Option Outcome)). FitsCaller bounds old new j z.0 z.1) (λ i. (sym (request_by-push_else j k rs job other) i, sym (outcome_by-push_else j k rs os job o same other) i)) (others j other))
 
 -- a request that is refused changes nothing
-pub fits_refused : (room : ℕ) (old mid : List Entry) (rs : List Request) (os : List Outcome) (k : ℕ) (job : Job) → length os ≡ length rs → request_by k rs ≡ None → Fits room old rs mid os
-    → Fits room old (rs ++ request k job ∷ []) mid (os ++ handed_back job ∷ [])
-fits_refused room old mid rs os k job same fresh f =
-    let had : calls_by k mid ≡ calls_by k old = subst (λ (q : Option Job). FitsCaller room old mid k q (outcome_by k rs os)) fresh (f.each k) in
+pub fits_refused : (bounds : Bounds) (old mid : List Entry) (rs : List Request) (os : List Outcome) (k : ℕ) (job : Job) → length os ≡ length rs → request_by k rs ≡ None → Fits bounds old rs mid os
+    → Fits bounds old (rs ++ request k job ∷ []) mid (os ++ handed_back job ∷ [])
+fits_refused bounds old mid rs os k job same fresh f =
+    let had : calls_by k mid ≡ calls_by k old = subst (λ (q : Option Job). FitsCaller bounds old mid k q (outcome_by k rs os)) fresh (f.each k) in
     record {
       grows = f.grows;
-      each = fits_pushed room old mid rs os k job (handed_back job) same fresh (back-of_job job) (back-fits room old mid k job had) (λ j other. f.each j);
+      each = fits_pushed bounds old mid rs os k job (handed_back job) same fresh (back-of_job job) (back-fits bounds old mid k job had) (λ j other. f.each j);
     }
 
 -- the calls of a request that is answered become the last entries
-pub fits_answered : (room : ℕ) (old mid : List Entry) (rs : List Request) (os : List Outcome) (k : ℕ) (job : Job) (o : Outcome) → length os ≡ length rs → request_by k rs ≡ None → IsOfJob job o
-    → fate_of o ≡ StandsAt (length mid) (replies_from (replay room mid) (block_entries mid k (calls_of job))) → Whole mid
-    → Fits room old rs mid os → Fits room old (rs ++ request k job ∷ []) (mid ++ block_entries mid k (calls_of job)) (os ++ o ∷ [])
-fits_answered room old mid rs os k job o same fresh kind fate whole f =
+pub fits_answered : (bounds : Bounds) (old mid : List Entry) (rs : List Request) (os : List Outcome) (k : ℕ) (job : Job) (o : Outcome) → length os ≡ length rs → request_by k rs ≡ None → IsOfJob job o
+    → fate_of o ≡ StandsAt (length mid) (replies_from (replay bounds mid) (block_entries mid k (calls_of job))) → Whole mid
+    → Fits bounds old rs mid os → Fits bounds old (rs ++ request k job ∷ []) (mid ++ block_entries mid k (calls_of job)) (os ++ o ∷ [])
+fits_answered bounds old mid rs os k job o same fresh kind fate whole f =
     let more : List Entry = block_entries mid k (calls_of job) in
-    let had : calls_by k mid ≡ calls_by k old = subst (λ (q : Option Job). FitsCaller room old mid k q (outcome_by k rs os)) fresh (f.each k) in
+    let had : calls_by k mid ≡ calls_by k old = subst (λ (q : Option Job). FitsCaller bounds old mid k q (outcome_by k rs os)) fresh (f.each k) in
     record {
       grows = begins_trans old mid (mid ++ more) f.grows (more, refl);
-      each = fits_pushed room old (mid ++ more) rs os k job o same fresh kind
-          (subst (FitsFate room old (mid ++ more) k (calls_of job)) (sym fate) (stands-behind room old mid k (calls_of job) f.grows whole had))
-          (λ j other. caller_grown room old mid more j (request_by j rs) (outcome_by j rs os) (others-behind mid j k (calls_of job) (λ e. other (sym e))) (f.each j));
+      each = fits_pushed bounds old (mid ++ more) rs os k job o same fresh kind
+          (subst (FitsFate bounds old (mid ++ more) k (calls_of job)) (sym fate) (stands-behind bounds old mid k (calls_of job) f.grows whole had))
+          (λ j other. caller_grown bounds old mid more j (request_by j rs) (outcome_by j rs os) (others-behind mid j k (calls_of job) (λ e. other (sym e))) (f.each j));
     }
 
 -- calls that a batch answered are answered at their own place, for a caller that had seen no more than the history before the batch
-pub answers-from_serves : (room : ℕ) (seen old new : List Entry) (own : List Call) (k : ℕ) (calls : List Call) (place : ℕ) (replies : List Answer)
-    → Begins seen old → Begins old new → calls_by k old ≡ own → calls_by k new ≡ own ++ calls → Serves room old new k calls place replies
-    → Answers room seen own k calls (take (place + length calls) new) replies
-answers-from_serves room seen old new own k calls place replies saw grew had has s =
+pub answers-from_serves : (bounds : Bounds) (seen old new : List Entry) (own : List Call) (k : ℕ) (calls : List Call) (place : ℕ) (replies : List Answer)
+    → Begins seen old → Begins old new → calls_by k old ≡ own → calls_by k new ≡ own ++ calls → Serves bounds old new k calls place replies
+    → Answers bounds seen own k calls (take (place + length calls) new) replies
+answers-from_serves bounds seen old new own k calls place replies saw grew had has s =
     let m : ℕ = place + length calls in
     let block : List Entry = block_at new place (length calls) in
     let of_caller : calls_by k block ≡ calls = ap (calls_by k) s.entries_are ∙ calls_by-block k (take place new) calls in

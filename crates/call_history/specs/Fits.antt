@@ -1,5 +1,6 @@
 -- How a batch of requests extends a history, said caller by caller.
 use Rattle.std.specs.Prelude.{◌≡◌, ◌==◌, ℕ, ◌+◌, ◌≤◌, List, [], ◌∷◌, ◌++◌, map, length, take, drop, slice_get, Option, Some, None, if◌then◌else◌}
+use Rattle.vector_memory.specs.declared.bounds.Bounds.{Bounds}
 use Rattle.cvl_text.specs.declared.call.Call.{Call}
 use Rattle.cvl_text.specs.Answers.{Answer, answer_of}
 use Rattle.call_history.specs.declared.entry.Entry.{Entry}
@@ -77,23 +78,23 @@ block_at history place count = take count (drop place history)
 
 -- The calls stand next to one another in what was added to the history, at this place, with these replies. No block is cut in the
 -- history up to and with them.
-pub record Serves (room : ℕ) (old new : List Entry) (caller : ℕ) (calls : List Call) (place : ℕ) (replies : List Answer) : Type 0 where
+pub record Serves (bounds : Bounds) (old new : List Entry) (caller : ℕ) (calls : List Call) (place : ℕ) (replies : List Answer) : Type 0 where
   pub added : length old ≤ place
   pub within : place + length calls ≤ length new
   pub entries_are : block_at new place (length calls) ≡ block_entries (take place new) caller calls
   pub whole : Whole (take (place + length calls) new)
-  pub replies_are : replies_from (replay room (take place new)) (block_entries (take place new) caller calls) ≡ replies
+  pub replies_are : replies_from (replay bounds (take place new)) (block_entries (take place new) caller calls) ≡ replies
 
-abbrev pub FitsFate : ℕ → List Entry → List Entry → ℕ → List Call → Fate → Type 0
-FitsFate room old new k calls (StandsAt place replies) = (calls_by k new ≡ calls_by k old ++ calls) × Serves room old new k calls place replies
-FitsFate room old new k calls (CameBack back) = (calls_by k new ≡ calls_by k old) × (back ≡ calls)
+abbrev pub FitsFate : Bounds → List Entry → List Entry → ℕ → List Call → Fate → Type 0
+FitsFate bounds old new k calls (StandsAt place replies) = (calls_by k new ≡ calls_by k old ++ calls) × Serves bounds old new k calls place replies
+FitsFate bounds old new k calls (CameBack back) = (calls_by k new ≡ calls_by k old) × (back ≡ calls)
 
 -- what a batch did for one caller, who asked for this job, or for none
-abbrev pub FitsCaller : ℕ → List Entry → List Entry → ℕ → Option Job → Option Outcome → Type 0
-FitsCaller room old new k None o = calls_by k new ≡ calls_by k old
-FitsCaller room old new k (Some job) o = (outcome : Outcome) × (o ≡ Some outcome) × IsOfJob job outcome × FitsFate room old new k (calls_of job) (fate_of outcome)
+abbrev pub FitsCaller : Bounds → List Entry → List Entry → ℕ → Option Job → Option Outcome → Type 0
+FitsCaller bounds old new k None o = calls_by k new ≡ calls_by k old
+FitsCaller bounds old new k (Some job) o = (outcome : Outcome) × (o ≡ Some outcome) × IsOfJob job outcome × FitsFate bounds old new k (calls_of job) (fate_of outcome)
 
 -- the history `new` is `old` with these requests served, and these are their outcomes
-pub record Fits (room : ℕ) (old : List Entry) (requests : List Request) (new : List Entry) (outcomes : List Outcome) : Type 0 where
+pub record Fits (bounds : Bounds) (old : List Entry) (requests : List Request) (new : List Entry) (outcomes : List Outcome) : Type 0 where
   pub grows : Begins old new
-  pub each : (k : ℕ) → FitsCaller room old new k (request_by k requests) (outcome_by k requests outcomes)
+  pub each : (k : ℕ) → FitsCaller bounds old new k (request_by k requests) (outcome_by k requests outcomes)

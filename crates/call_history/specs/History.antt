@@ -1,6 +1,7 @@
 -- Histories: the memory that one leads to, and what is replied along it.
 use Rattle.std.specs.Prelude.{◌≡◌, ℕ, List, [], ◌∷◌, ◌++◌, Option, None}
 use Rattle.std.specs.List.{last_or}
+use Rattle.vector_memory.specs.declared.bounds.Bounds.{Bounds}
 use Rattle.vector_memory.specs.States.{State, empty}
 use Rattle.cvl_text.specs.declared.call.Call.{Call}
 use Rattle.cvl_text.specs.Tasks.{task_of}
@@ -24,9 +25,9 @@ abbrev pub replay_from : State → List Entry → State
 replay_from m [] = m
 replay_from m (e ∷ es) = replay_from (stepped m (task_of e.call)).memory es
 
--- the memory after the calls of a history, from the empty memory of a room
-abbrev pub replay : ℕ → List Entry → State
-replay room history = replay_from (empty room) history
+-- the memory after the calls of a history, from the empty memory of these bounds
+abbrev pub replay : Bounds → List Entry → State
+replay bounds history = replay_from (empty bounds) history
 
 -- the reply to each call of a history, from this memory
 abbrev pub replies_from : State → List Entry → List Answer
@@ -34,12 +35,12 @@ replies_from m [] = []
 replies_from m (e ∷ es) = (stepped m (task_of e.call)).answer ∷ replies_from (stepped m (task_of e.call)).memory es
 
 -- the reply to the last call of a history, if it has one
-abbrev pub last_reply : ℕ → List Entry → Option Answer
-last_reply room history = last_or None (replies_from (empty room) history)
+abbrev pub last_reply : Bounds → List Entry → Option Answer
+last_reply bounds history = last_or None (replies_from (empty bounds) history)
 
 -- the reply to a call behind a history
-abbrev pub reply_after : ℕ → List Entry → Call → Answer
-reply_after room history call = (stepped (replay room history) (task_of call)).answer
+abbrev pub reply_after : Bounds → List Entry → Call → Answer
+reply_after bounds history call = (stepped (replay bounds history) (task_of call)).answer
 
 -- the history `line` begins with `seen`
 abbrev pub Begins : List Entry → List Entry → Type 0

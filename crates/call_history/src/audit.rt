@@ -2,7 +2,7 @@
 
 ghost use Rattle.std.specs.Prelude.{◌≡◌, ◌↔◌, IsTrue, IfOk};
 ghost use Rattle.vector_memory.specs.Contents.{content_of};
-ghost use Rattle.vector_memory.specs.States.{IsLawfulRoom};
+ghost use Rattle.vector_memory.specs.States.{IsLawfulRoom, bounds_in};
 ghost use Rattle.call_history.specs.History.{replay};
 ghost use Rattle.call_history.specs.Shown.{shown};
 
@@ -10,20 +10,21 @@ use crate::entry::Entry;
 use cvl_calls::{Spare, step_with};
 use scan_kernels::{Execution, Meter};
 use std::alloc::Global;
-use vector_memory::{Memory, Name, OutOfMemory, Value};
+use vector_memory::{Edition, Memory, Name, OutOfMemory, Value};
 
-/// A new memory of this room, after the calls of the entries one by one.
+/// A new memory of this room and edition, after the calls of the entries one by one.
 #[tactic(auto, using(cvl_calls::proofs::BlockSteps::outside_may_change, cvl_calls::proofs::BlockSteps::steps_outside))]
 pub(crate) fn replayed(
     execution: &impl Execution,
     alloc: Global,
     room: u64,
+    edition: Edition,
     entries: &[Entry],
 ) -> Result<Memory, OutOfMemory>
     requires { IsLawfulRoom room }
-    ensures { IfOk result (λ memory. memory ≡ replay room entries.now) }
+    ensures { IfOk result (λ memory. memory ≡ replay (bounds_in edition room) entries.now) }
 {
-    let mut memory = Memory::new(alloc, room)?;
+    let mut memory = Memory::with_edition(alloc, room, edition)?;
     let mut meter = Meter::new();
     let mut spare = Spare::new(alloc);
     for entry in entries {

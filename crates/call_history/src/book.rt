@@ -1,5 +1,6 @@
 ghost use Rattle.std.specs.Prelude.{◌≡◌, ◌==◌, ◌+◌, ◌<◌, ◌≤◌, ◌∷◌, ◌++◌, [], length, map, slice_get, Some, IfOk, IfErr, OnOk, OnErr, IsOk, IsTrue, vec_len, vec_capacity};
-ghost use Rattle.vector_memory.specs.States.{IsLawfulRoom, MayChange};
+ghost use Rattle.vector_memory.specs.States.{IsLawfulRoom, MayChange, bounds_in};
+ghost use Rattle.vector_memory.specs.Editions.{item_limit};
 ghost use Rattle.cvl_text.specs.Tasks.{task_of};
 ghost use Rattle.cvl_text.specs.Answers.{answer_of};
 ghost use Rattle.cvl_calls.specs.Steps.{CountsStep, MayLackMemory, runs_on, stepped, work_on};
@@ -20,7 +21,7 @@ use scan_kernels::{Execution, Meter};
 use std::alloc::Global;
 use std::marker::Model;
 use vector_memory::laws::memories_are_lawful;
-use vector_memory::{Memory, OutOfMemory};
+use vector_memory::{Bounds, Edition, Memory, OutOfMemory};
 
 /// The greatest number of callers.
 pub const CALLER_LIMIT: usize = 64;
@@ -104,14 +105,23 @@ fn done(
 }
 
 impl Book {
-    /// A book with an empty history, whose memory has room for up to `room` items together.
+    /// A book of edition 1 with an empty history, whose memory has room for up to `room` items together.
     pub fn new(alloc: Global, room: u64) -> Result<Book, OutOfMemory>
         requires { IsLawfulRoom room }
         ensures history { IfOk result (λ book. book.history ≡ []) }
-        ensures room { IfOk result (λ book. book.room ≡ room) }
+        ensures bounds { IfOk result (λ book. book.bounds ≡ bounds_in Edition.One room) }
+    {
+        Book::with_edition(alloc, room, Edition::One)
+    }
+
+    /// A book with an empty history, whose memory is of an edition and has room for up to `room` items together.
+    pub fn with_edition(alloc: Global, room: u64, edition: Edition) -> Result<Book, OutOfMemory>
+        requires { IsLawfulRoom room }
+        ensures history { IfOk result (λ book. book.history ≡ []) }
+        ensures bounds { IfOk result (λ book. book.bounds ≡ bounds_in edition room) }
     {
         Ok(Book {
-            memory: Memory::new(alloc, room)?,
+            memory: Memory::with_edition(alloc, room, edition)?,
             entries: Vec::new(alloc),
             tickets: Box::new(alloc, [0; CALLER_LIMIT])?,
             spare: Spare::new(alloc),
@@ -132,7 +142,7 @@ impl Book {
         ensures history { OnOk result (self.new.history
             ≡ self.old.history ++ next_entry self.old.history caller call ∷ []) }
         ensures place { IfOk result (λ answer. answer.0 ≡ length self.old.history) }
-        ensures reply { IfOk result (λ answer. answer_of answer.1 ≡ reply_after self.old.room self.old.history call) }
+        ensures reply { IfOk result (λ answer. answer_of answer.1 ≡ reply_after self.old.bounds self.old.history call) }
         ensures memory { OnOk result (memory_of self.new ≡ (stepped (memory_of self.old) (task_of call)).memory) }
         ensures one_space { OnOk result (self.old.spaces ≤ self.new.spaces + 1) }
 
@@ -140,7 +150,7 @@ impl Book {
         ensures unchanged { OnErr result (self.new.history ≡ self.old.history) }
         ensures spaces_kept { OnErr result (self.old.spaces ≤ self.new.spaces) }
 
-        ensures room { self.new.room ≡ self.old.room }
+        ensures bounds { self.new.bounds ≡ self.old.bounds }
 
         // In space that was reserved it is refused only where a step is.
         ensures lacks { 0 < self.old.spaces →
@@ -163,7 +173,7 @@ impl Book {
         ensures history { OnOk result (self.new.history
             ≡ self.old.history ++ next_entry self.old.history caller call ∷ []) }
         ensures place { IfOk result (λ answer. answer.0 ≡ length self.old.history) }
-        ensures reply { IfOk result (λ answer. answer_of answer.1 ≡ reply_after self.old.room self.old.history call) }
+        ensures reply { IfOk result (λ answer. answer_of answer.1 ≡ reply_after self.old.bounds self.old.history call) }
         ensures memory { OnOk result (memory_of self.new ≡ (stepped (memory_of self.old) (task_of call)).memory) }
         ensures one_space { OnOk result (self.old.spaces ≤ self.new.spaces + 1) }
 
@@ -171,7 +181,7 @@ impl Book {
         ensures unchanged { OnErr result (self.new.history ≡ self.old.history) }
         ensures spaces_kept { OnErr result (self.old.spaces ≤ self.new.spaces) }
 
-        ensures room { self.new.room ≡ self.old.room }
+        ensures bounds { self.new.bounds ≡ self.old.bounds }
         ensures counted { CountsStep (runs_on (memory_of self.old) (task_of call)) result meter.old meter.new }
 
         // In space that was reserved it is refused only where a step is.
@@ -208,7 +218,7 @@ impl Book {
         ensures history { OnOk result (self.new.history
             ≡ self.old.history ++ next_entry self.old.history caller call ∷ []) }
         ensures place { IfOk result (λ answer. answer.0 ≡ length self.old.history) }
-        ensures reply { IfOk result (λ answer. answer_of answer.1 ≡ reply_after self.old.room self.old.history call) }
+        ensures reply { IfOk result (λ answer. answer_of answer.1 ≡ reply_after self.old.bounds self.old.history call) }
         ensures memory { OnOk result (memory_of self.new ≡ (stepped (memory_of self.old) (task_of call)).memory) }
         ensures one_space { OnOk result (self.old.spaces ≤ self.new.spaces + 1) }
 
@@ -216,7 +226,7 @@ impl Book {
         ensures unchanged { OnErr result (self.new.history ≡ self.old.history) }
         ensures spaces_kept { OnErr result (self.old.spaces ≤ self.new.spaces) }
 
-        ensures room { self.new.room ≡ self.old.room }
+        ensures bounds { self.new.bounds ≡ self.old.bounds }
     {
         let Ok(()) = self.entries.reserve(1) else {
             return Err((call, OutOfMemory));
@@ -253,7 +263,7 @@ impl Book {
         ensures unchanged { OnErr result (self.new.history ≡ self.old.history) }
         ensures spaces_kept { OnErr result (self.old.spaces ≤ self.new.spaces) }
 
-        ensures room { self.new.room ≡ self.old.room }
+        ensures bounds { self.new.bounds ≡ self.old.bounds }
         ensures rises { RisesBy (length calls.items) meter.old meter.new }
     {
         let Ok(mut replies) = Vec::with_capacity(alloc, calls.len()) else {
@@ -282,13 +292,13 @@ impl Book {
         Ok((place, replies))
     }
 
-    /// Makes space for `additional` more entries at least. History and room are as before either way.
+    /// Makes space for `additional` more entries at least. History and bounds are as before either way.
     pub fn reserve(&mut self, additional: usize) -> Result<(), OutOfMemory>
         ensures spaces { OnOk result (additional ≤ self.new.spaces) }
         ensures succeeds { additional ≤ self.old.spaces → IsOk result }
         ensures spaces_kept { self.old.spaces ≤ self.new.spaces }
         ensures history { self.new.history ≡ self.old.history }
-        ensures room { self.new.room ≡ self.old.room }
+        ensures bounds { self.new.bounds ≡ self.old.bounds }
     {
         self.entries.reserve(additional)?;
         Ok(())
@@ -332,16 +342,32 @@ impl Book {
         ensures { IfOk result IsTrue }
     {
         memories_are_lawful(&self.memory);
-        let anew = replayed(execution, alloc, self.memory.room(), &self.entries)?;
+        let room = self.memory.room();
+        let edition = self.memory.edition();
+        let anew = replayed(execution, alloc, room, edition, &self.entries)?;
         Ok(holds_the_same(&anew, &self.memory))
     }
 
     /// The greatest number of items of all values.
     pub fn room(&self) -> u64
-        ensures room { result ≡ self.now.room }
-        ensures lawful { IsLawfulRoom self.now.room }
+        ensures room { result ≡ self.now.bounds.room }
+        ensures lawful { IsLawfulRoom self.now.bounds.room }
     {
         memories_are_lawful(&self.memory);
         self.memory.room()
+    }
+
+    /// The edition of the memory.
+    pub fn edition(&self) -> Edition
+        ensures { item_limit result ≡ self.now.bounds.limit }
+    {
+        self.memory.edition()
+    }
+
+    /// How much the memory may hold.
+    pub fn bounds(&self) -> Bounds
+        ensures { result ≡ self.now.bounds }
+    {
+        self.memory.bounds()
     }
 }

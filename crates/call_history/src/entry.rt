@@ -13,4 +13,4 @@ pub struct Entry {
 }
 
 /// A long history is made of entries, so their size is what a call costs in memory beyond its own items.
-const _: () = prove!(size_of::<Entry>() == 88);
+const _: () = prove!(size_of::<Entry>() == 112);

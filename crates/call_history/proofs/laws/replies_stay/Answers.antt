@@ -6,6 +6,6 @@ pub returns : goal.returns
 returns c = record {
   parts = replies_from-append;
   each = length-replies_from;
-  at_place = λ room before after e. reply-at_place (empty room) before after e;
+  at_place = λ bounds before after e. reply-at_place (empty bounds) before after e;
   last = last_reply-push;
 }

@@ -1,5 +1,5 @@
 use Rattle.std.proofs.Common.{◌≡◌, ◌++◌, None, List, length, map, subst, sym, ap, ◌∙◌, arith, length-append}
-use Rattle.vector_memory.specs.States.{State, ended}
+use Rattle.vector_memory.specs.States.{State, bounds_of, ended}
 use Rattle.cvl_text.specs.declared.call.Call.{Call}
 use Rattle.cvl_text.specs.Answers.{answer_of}
 use Rattle.call_history.specs.declared.entry.Entry.{Entry}
@@ -12,8 +12,8 @@ use Rattle.call_history.proofs.Blocks.{Whole-append, Whole-block, ended-begun, l
 use Rattle.call_history.proofs.book.Book.run_block.Goals as goal
 
 -- the memory of a book is in no block
-outside : (m : State) (history : List Entry) → m ≡ replay m.room history → m.block ≡ None
-outside m history known = ap (λ (s : State). s.block) known ∙ replay-outside m.room history
+outside : (m : State) (history : List Entry) → m ≡ replay (bounds_of m) history → m.block ≡ None
+outside m history known = ap (λ (s : State). s.block) known ∙ replay-outside (bounds_of m) history
 
 pub begin_block-requires-clause-outside : goal.begin_block-requires-clause-outside
 begin_block-requires-clause-outside g c = outside c.self.inside.memory c.self.inside.entries.items c.self.invariant.replayed
@@ -44,7 +44,7 @@ invariant_of-self-2 g c =
     let items : c.enter_each-place.new.entries.items ≡ history ++ block_entries history c.args.caller calls =
     c.enter_each-place.ensures.items ∙ ap (λ (es : List Entry). es ++ block_entries es c.args.caller calls) c.reserve.ensures.items in
     record {
-      replayed = replay-block i.memory c.end_block.new.self history c.args.caller calls c.self.invariant.replayed leads ∙ ap (replay c.end_block.new.self.room) (sym items);
+      replayed = replay-block i.memory c.end_block.new.self history c.args.caller calls c.self.invariant.replayed leads ∙ ap (replay (bounds_of c.end_block.new.self)) (sym items);
       ticketed = c.enter_each-place.ensures.ticketed;
       lawful_callers = c.enter_each-place.ensures.lawful_callers;
       whole = subst Whole (sym items) (Whole-append history (block_entries history c.args.caller calls) c.self.invariant.whole (Whole-block history c.args.caller calls));

@@ -5,7 +5,8 @@ use Rattle.call_history.specs.Books.{memory_of}
 use Rattle.call_history.specs.History.{replay}
 use Rattle.call_history.specs.Callers.{next_entry}
 use Rattle.call_history.proofs.Counting.{counts_nothing, counts_refused, counts_answered}
-use Rattle.cvl_calls.proofs.BlockSteps.{room-stepped}
+use Rattle.vector_memory.specs.States.{bounds_of}
+use Rattle.call_history.proofs.Replays.{bounds-stepped}
 use Rattle.call_history.specs.Blocks.{Whole}
 use Rattle.call_history.proofs.Blocks.{Whole-push}
 use Rattle.call_history.proofs.Outside.{book_may_change}
@@ -22,16 +23,16 @@ invariant_of-self-2 g c =
     let items : c.enter-place.new.entries.items ≡ history ++ added ∷ [] = c.enter-place.ensures.items ∙ ap (λ es. es ++ next_entry es c.args.caller c.args.call ∷ []) c.reserve.ensures.items in
     record {
       replayed = replay-push c.self.inside.memory c.step_with.new.memory history added c.self.invariant.replayed (ap (λ s. s.memory) c.in-Ok-step_with.ensures.ok)
-          ∙ ap (λ es. replay c.step_with.new.memory.room es) (sym items);
+          ∙ ap (λ es. replay (bounds_of c.step_with.new.memory) es) (sym items);
       ticketed = c.enter-place.ensures.ticketed;
       lawful_callers = c.enter-place.ensures.lawful_callers;
       whole = subst Whole (sym items) (Whole-push history added c.self.invariant.whole refl);
       counted = c.enter-place.ensures.counted;
     }
 
-pub returns-clause-room : goal.returns-clause-room
-returns-clause-room g c =
-    ap (λ s. s.memory.room) (sym c.in-Ok-step_with.ensures.ok) ∙ (room-stepped c.self.inside.memory (task_of c.args.call) ∙ ap (λ s. s.room) c.self.view_is)
+pub returns-clause-bounds : goal.returns-clause-bounds
+returns-clause-bounds g c =
+    ap (λ s. bounds_of s.memory) (sym c.in-Ok-step_with.ensures.ok) ∙ (bounds-stepped c.self.inside.memory (task_of c.args.call) ∙ ap (λ s. s.bounds) c.self.view_is)
 
 pub returns-clause-memory : goal.returns-clause-memory
 returns-clause-memory g c =
