@@ -1,5 +1,6 @@
 -- A batch of one request: its wave is the first, and the turn of its job is all that is done.
 use Rattle.std.proofs.Common.{◌≡◌, ℕ, zero, suc, List, [], ◌∷◌, Some, slice_get, refl, sym, subst, arith}
+use Rattle.vector_memory.specs.declared.bounds.Bounds.{Bounds}
 use Rattle.call_history.specs.declared.entry.Entry.{Entry}
 use Rattle.call_history.specs.declared.request.Job.{Job}
 use Rattle.call_history.specs.declared.request.Job.TheVariants.{One, Many}
@@ -23,15 +24,15 @@ runs-back : (old new : BookState) (k : ℕ) (job : Job) (o : Outcome) → RunsJo
 runs-back old new k (One call) o runs = runs
 runs-back old new k (Many calls) o runs = runs
 
-served : (room : ℕ) (line : List Entry) (r : Request) (old new : BookState) (o : Outcome) → Whole line → old.room ≡ room → old.history ≡ line → RunsJob old new r.caller r.job o
-    → ServesInOrder room line (r ∷ []) new.history (o ∷ [])
-served room line r old new o whole rooms lines ran =
-    let start = subst (λ (l : List Entry). Serving room line (r ∷ []) [] l (returned r ∷ [])) (sym lines) (serving_start room line (r ∷ []) whole) in
-    let turn = serving_turn room line (r ∷ []) (r.caller ∷ []) [] 0 old new (returned r ∷ []) (returned r) o rooms (omega arith) (asked-once r) tt refl (runs-back old new r.caller r.job o ran) start in
-    serving_end room line (r ∷ []) (0 ∷ []) new.history (o ∷ []) refl refl turn
+served : (bounds : Bounds) (line : List Entry) (r : Request) (old new : BookState) (o : Outcome) → Whole line → old.bounds ≡ bounds → old.history ≡ line → RunsJob old new r.caller r.job o
+    → ServesInOrder bounds line (r ∷ []) new.history (o ∷ [])
+served bounds line r old new o whole rooms lines ran =
+    let start = subst (λ (l : List Entry). Serving bounds line (r ∷ []) [] l (returned r ∷ [])) (sym lines) (serving_start bounds line (r ∷ []) whole) in
+    let turn = serving_turn bounds line (r ∷ []) (r.caller ∷ []) [] 0 old new (returned r ∷ []) (returned r) o rooms (omega arith) (asked-once r) tt refl (runs-back old new r.caller r.job o ran) start in
+    serving_end bounds line (r ∷ []) (0 ∷ []) new.history (o ∷ []) refl refl turn
 
 -- the turn of the one job, on a book as it was
-pub alone-served : (room : ℕ) (line : List Entry) (rs : List Request) (os : List Outcome) (r : Request) (old new : BookState) (o : Outcome) → rs ≡ r ∷ [] → os ≡ o ∷ [] → Whole line
-    → old.room ≡ room → old.history ≡ line → RunsJob old new r.caller r.job o → ServesInOrder room line rs new.history os
-alone-served room line rs os r old new o asked said whole rooms lines ran =
-    subst (λ (z : List Request × (List Outcome)). ServesInOrder room line z.0 new.history z.1) (λ j. (sym asked j, sym said j)) (served room line r old new o whole rooms lines ran)
+pub alone-served : (bounds : Bounds) (line : List Entry) (rs : List Request) (os : List Outcome) (r : Request) (old new : BookState) (o : Outcome) → rs ≡ r ∷ [] → os ≡ o ∷ [] → Whole line
+    → old.bounds ≡ bounds → old.history ≡ line → RunsJob old new r.caller r.job o → ServesInOrder bounds line rs new.history os
+alone-served bounds line rs os r old new o asked said whole rooms lines ran =
+    subst (λ (z : List Request × (List Outcome)). ServesInOrder bounds line z.0 new.history z.1) (λ j. (sym asked j, sym said j)) (served bounds line r old new o whole rooms lines ran)

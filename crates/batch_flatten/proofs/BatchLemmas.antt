@@ -6,6 +6,7 @@ use Rattle.std.proofs.lemmas.List.{get_or-map, get_or-take, length-map, take_at}
 use Rattle.std.proofs.lemmas.List.Sums.{sum_by-cons}
 use Rattle.std.proofs.lemmas.Option.{get_or_from_slice_get, slice_get_within}
 use Rattle.std.proofs.lemmas.Slice.Zip.{length-zip}
+use Rattle.vector_memory.specs.declared.bounds.Bounds.{Bounds}
 use Rattle.cvl_text.specs.declared.call.Call.{Call}
 use Rattle.cvl_text.specs.declared.word.Word.{Word}
 use Rattle.cvl_text.specs.declared.word.Word.TheVariants.{SetInts}
@@ -91,17 +92,17 @@ batch_places : (rs : List Request) (waves : List ℕ) (n count : ℕ) → n ≡ 
 batch_places rs waves n count many made last = λ j. places_of_first (batch_waves rs waves n many made j) (last j)
 
 -- a batch from its start to its end
-pub batch_done : (room now : ℕ) (line mid new : List Entry) (rs : List Request) (callers waves : List ℕ) (n count : ℕ) (first os : List Outcome) → Whole line → now ≡ room → mid ≡ line → first ≡ map returned rs → n ≡ length rs
+pub batch_done : (bounds now : Bounds) (line mid new : List Entry) (rs : List Request) (callers waves : List ℕ) (n count : ℕ) (first os : List Outcome) → Whole line → now ≡ bounds → mid ≡ line → first ≡ map returned rs → n ≡ length rs
     → AllPairs (λ r s. r.caller ≢ s.caller) rs → take (length rs) callers ≡ map caller_of rs → take (length rs) waves ≡ waves_of (map asked rs) → count ≡ wave_count rs
-    → (AreAskedBy rs callers → Serving now line rs [] mid first → Serving now line rs (places_of_first (take n waves) count) new os) → ServesInOrder room line rs new os
-batch_done room now line mid new rs callers waves n count first os whole rooms mids firsts many distinct callers_are made last go =
+    → (AreAskedBy rs callers → Serving now line rs [] mid first → Serving now line rs (places_of_first (take n waves) count) new os) → ServesInOrder bounds line rs new os
+batch_done bounds now line mid new rs callers waves n count first os whole rooms mids firsts many distinct callers_are made last go =
     let ws = waves_of (map asked rs) in
     let at_start = subst (λ (z : List Entry × (List Outcome)). Serving now line rs [] z.0 z.1) (λ j. (sym mids j, sym firsts j)) (serving_start now line rs whole) in
     let at_end = go (record { callers_are = callers_are; each = asked_once rs distinct }) at_start in
-    let s : Serving room line rs (places_of_first ws (count_of ws)) new os = subst (λ (z : ℕ × (List ℕ)). Serving z.0 line rs z.1 new os) (λ j. (rooms j, batch_places rs waves n count many made last j)) at_end in
+    let s : Serving bounds line rs (places_of_first ws (count_of ws)) new os = subst (λ (z : Bounds × (List ℕ)). Serving z.0 line rs z.1 new os) (λ j. (rooms j, batch_places rs waves n count many made last j)) at_end in
     let paired = s.paired in
     let long : length ws ≡ length (zip rs os) = omega (arith, length-waves_of (map asked rs), length-map rs asked, length-zip rs os) in
-    serving_end room line rs ws new os refl long s
+    serving_end bounds line rs ws new os refl long s
 
 job-back : (rs : List Request) (i : ℕ) (r : Request) (o : Outcome) → slice_get rs i ≡ Some r → slice_get (map returned rs) i ≡ Some o → handed_back r.job ≡ o
 job-back [] i r o there back = absurd cc
@@ -191,8 +192,8 @@ none-places ps (i ∷ places) all = by (slice_get ps i) (none-at ps i all) (none
     by (Some p) one rest = (one.0, rest)
 
 -- a batch of which each call came back
-pub batch_back : (room : ℕ) (line mid : List Entry) (rs : List Request) (os : List Outcome) → Whole line → mid ≡ line → os ≡ map returned rs → ServesInOrder room line rs mid os
-batch_back room line mid rs os whole mids firsts = subst (λ (z : List Entry × (List Outcome)). ServesInOrder room line rs z.0 z.1) (λ j. (sym mids j, sym firsts j)) from_start
+pub batch_back : (bounds : Bounds) (line mid : List Entry) (rs : List Request) (os : List Outcome) → Whole line → mid ≡ line → os ≡ map returned rs → ServesInOrder bounds line rs mid os
+batch_back bounds line mid rs os whole mids firsts = subst (λ (z : List Entry × (List Outcome)). ServesInOrder bounds line rs z.0 z.1) (λ j. (sym mids j, sym firsts j)) from_start
   where
     ws : List ℕ
     ws = waves_of (map asked rs)
@@ -203,9 +204,9 @@ batch_back room line mid rs os whole mids firsts = subst (λ (z : List Entry × 
     long : length ws ≡ length ps
     long = omega (arith, length-waves_of (map asked rs), length-map rs asked, length-zip rs (map returned rs), length-map rs returned)
 
-    from_start : ServesInOrder room line rs line (map returned rs)
+    from_start : ServesInOrder bounds line rs line (map returned rs)
     from_start =
-        let s = serving_start room line rs whole in
+        let s = serving_start bounds line rs whole in
         record {
           fits = s.fits;
           paired = s.paired;

@@ -10,6 +10,7 @@ use Rattle.std.proofs.lemmas.List.Sums.{sum_by-cons}
 use Rattle.std.proofs.lemmas.Option.{slice_get-get_or}
 use mathlib.Core.Logic.{dite}
 use native.Mathlib.Decide.{ℕ_discrete}
+use Rattle.vector_memory.specs.declared.bounds.Bounds.{Bounds}
 use Rattle.cvl_text.specs.declared.call.Call.{Call}
 use Rattle.cvl_text.specs.Tasks.{task_of}
 use Rattle.cvl_calls.specs.Runs.{TakesNoMemory}
@@ -61,7 +62,7 @@ answered-append ps qs = ap (map (λ p. p.0)) (filter-append (λ p. is_answered p
 -- the job ran behind the history
 abbrev JobRan : BookState → BookState → ℕ → Job → Outcome → Type 0
 JobRan old new k job o =
-    IsOfJob job o × (is_answered o ≡ true) × (new.room ≡ old.room) × (new.history ≡ old.history ++ block_entries old.history k (calls_of job))
+    IsOfJob job o × (is_answered o ≡ true) × (new.bounds ≡ old.bounds) × (new.history ≡ old.history ++ block_entries old.history k (calls_of job))
     × (fate_of o ≡ StandsAt (length old.history) (replies_from (memory_of old) (block_entries old.history k (calls_of job))))
 
 -- a job ran, or it came back
@@ -85,9 +86,9 @@ block-calls history k [] = refl
 block-calls history k (c ∷ cs) = ap (λ (l : List (ℕ × Call)). (k, c) ∷ l) (block-calls (history ++ next_before history k c (length cs) ∷ []) k cs)
 
 -- the outcome at a place that had no turn is the job back
-waits : (room : ℕ) (line : List Entry) (rs : List Request) (done : List ℕ) (place : ℕ) (mid : List Entry) (os : List Outcome) (k : ℕ) (job : Job) → Serving room line rs done mid os → IsOutside done place
+waits : (bounds : Bounds) (line : List Entry) (rs : List Request) (done : List ℕ) (place : ℕ) (mid : List Entry) (os : List Outcome) (k : ℕ) (job : Job) → Serving bounds line rs done mid os → IsOutside done place
     → IsAskedAt rs place k job → slice_get os place ≡ Some (handed_back job)
-waits room line rs done place mid os k job s out at = s.waiting place out ∙ ap (option_map returned) at.there
+waits bounds line rs done place mid os k job s out at = s.waiting place out ∙ ap (option_map returned) at.there
 
 still_wait : (rs : List Request) (done : List ℕ) (place : ℕ) (os : List Outcome) (o : Outcome) → ((p : ℕ) → IsOutside done p → slice_get os p ≡ option_map returned (slice_get rs p))
     → (p : ℕ) → IsOutside (done ++ place ∷ []) p → slice_get (set os place o) p ≡ option_map returned (slice_get rs p)
@@ -113,17 +114,17 @@ one-answered r o e = ap (λ b. flat_map calls_asked (map (λ (p : Request × Out
 none-answered : (r : Request) (o : Outcome) → is_answered o ≡ false → answered_calls ((r, o) ∷ []) ≡ []
 none-answered r o e = ap (λ b. flat_map calls_asked (map (λ (p : Request × Outcome). p.0) (cond b ((r, o) ∷ []) []))) e
 
-module _ (room : ℕ) (line : List Entry) (rs : List Request) (done : List ℕ) (place : ℕ) (old new : BookState) (os : List Outcome) (k : ℕ) (job : Job) (o : Outcome) (same : old.room ≡ room) (s : Serving room line rs done old.history os) (out : IsOutside done place) (asks : IsAskedAt rs place k job) where
+module _ (bounds : Bounds) (line : List Entry) (rs : List Request) (done : List ℕ) (place : ℕ) (old new : BookState) (os : List Outcome) (k : ℕ) (job : Job) (o : Outcome) (same : old.bounds ≡ bounds) (s : Serving bounds line rs done old.history os) (out : IsOutside done place) (asks : IsAskedAt rs place k job) where
   abbrev block : List Entry
   block = block_entries old.history k (calls_of job)
 
   back : slice_get os place ≡ Some (handed_back job)
-  back = waits room line rs done place old.history os k job s out asks
+  back = waits bounds line rs done place old.history os k job s out asks
 
-  serving_ran : JobRan old new k job o → Serving room line rs (done ++ place ∷ []) new.history (set os place o)
+  serving_ran : JobRan old new k job o → Serving bounds line rs (done ++ place ∷ []) new.history (set os place o)
   serving_ran ran = record {
-    fits = subst (λ (l : List Entry). Fits room line rs l (set os place o)) (sym ran.3)
-        (fits_answered_at room line old.history rs os place k job o asks back ran.0 (ran.4 ∙ ap (λ (r : ℕ). StandsAt (length old.history) (replies_from (replay r old.history) block)) same) s.whole s.fits);
+    fits = subst (λ (l : List Entry). Fits bounds line rs l (set os place o)) (sym ran.3)
+        (fits_answered_at bounds line old.history rs os place k job o asks back ran.0 (ran.4 ∙ ap (λ (r : Bounds). StandsAt (length old.history) (replies_from (replay r old.history) block)) same) s.whole s.fits);
     paired = length-set os place o ∙ s.paired;
     added = s.added ++ block;
     grown = ran.3 ∙ ap (λ l. l ++ block) s.grown ∙ append_assoc line s.added block;
@@ -134,9 +135,9 @@ module _ (room : ℕ) (line : List Entry) (rs : List Request) (done : List ℕ) 
     waiting = still_wait rs done place os o s.waiting;
   }
 
-  serving_stays : StaysWith old new (handed_back job) o → Serving room line rs (done ++ place ∷ []) new.history (set os place o)
+  serving_stays : StaysWith old new (handed_back job) o → Serving bounds line rs (done ++ place ∷ []) new.history (set os place o)
   serving_stays stays = record {
-    fits = subst (λ (z : List Entry × (List Outcome)). Fits room line rs z.0 z.1)
+    fits = subst (λ (z : List Entry × (List Outcome)). Fits bounds line rs z.0 z.1)
         (λ j. (sym stays.1 j, sym (ap (set os place) stays.2 ∙ set_itself os place (handed_back job) back) j)) s.fits;
     paired = length-set os place o ∙ s.paired;
     added = s.added;
@@ -148,7 +149,7 @@ module _ (room : ℕ) (line : List Entry) (rs : List Request) (done : List ℕ) 
     waiting = still_wait rs done place os o s.waiting;
   }
 
-  serving_run : RunsJob old new k job o → Serving room line rs (done ++ place ∷ []) new.history (set os place o)
+  serving_run : RunsJob old new k job o → Serving bounds line rs (done ++ place ∷ []) new.history (set os place o)
   serving_run runs = ⊎_elim serving_ran serving_stays (job-cases old new k job o runs)
 
 slice_get-take : {X : Type 0} (xs : List X) (n i : ℕ) → i < n → slice_get (take n xs) i ≡ slice_get xs i
@@ -188,24 +189,24 @@ back-runs old new k (One call) o runs = runs
 back-runs old new k (Many calls) o runs = runs
 
 -- the turn of the job at a place
-pub serving_turn : (room : ℕ) (line : List Entry) (rs : List Request) (callers done : List ℕ) (place : ℕ) (old new : BookState) (os : List Outcome) (was o : Outcome) → old.room ≡ room → place < length os
+pub serving_turn : (bounds : Bounds) (line : List Entry) (rs : List Request) (callers done : List ℕ) (place : ℕ) (old new : BookState) (os : List Outcome) (was o : Outcome) → old.bounds ≡ bounds → place < length os
     → AreAskedBy rs callers → IsOutside done place → slice_get os place ≡ Some was → RunsBack old new (slice_index callers place) was o
-    → Serving room line rs done old.history os → Serving room line rs (done ++ place ∷ []) new.history (set os place o)
-serving_turn room line rs callers done place old new os was o same within by out has ran s =
+    → Serving bounds line rs done old.history os → Serving bounds line rs (done ++ place ∷ []) new.history (set os place o)
+serving_turn bounds line rs callers done place old new os was o same within by out has ran s =
     let paired = s.paired in
     let lt : place < length rs = omega arith in
     let found = place_in rs place lt in
     let r = found.0 in
     let asks : IsAskedAt rs place r.caller r.job = by.each place r.caller r.job found.1 in
-    let back = waits room line rs done place old.history os r.caller r.job s out asks in
+    let back = waits bounds line rs done place old.history os r.caller r.job s out asks in
     let is : was ≡ handed_back r.job = some_of was (handed_back r.job) (sym has ∙ back) in
     let ran_back : RunsBack old new (slice_index callers place) (handed_back r.job) o = subst (λ (z : Outcome). RunsBack old new (slice_index callers place) z o) is ran in
     let own : RunsJob old new r.caller r.job o = subst (λ (k : ℕ). RunsJob old new k r.job o) (caller_here rs callers place r by lt found.1) (back-runs old new (slice_index callers place) r.job o ran_back) in
-    serving_run room line rs done place old new os r.caller r.job o same s out asks own
+    serving_run bounds line rs done place old new os r.caller r.job o same s out asks own
 
-pub serving_start : (room : ℕ) (line : List Entry) (rs : List Request) → Whole line → Serving room line rs [] line (map returned rs)
-serving_start room line rs whole = record {
-  fits = fits_returned room line rs;
+pub serving_start : (bounds : Bounds) (line : List Entry) (rs : List Request) → Whole line → Serving bounds line rs [] line (map returned rs)
+serving_start bounds line rs whole = record {
+  fits = fits_returned bounds line rs;
   paired = length-map rs returned;
   added = [];
   grown = sym (append-nil line);
@@ -239,13 +240,13 @@ back-turn old new k os place was o there runs j u at lacks = dite (ℕ_discrete 
     ap (slice_get os) same ∙ there ∙ ap (λ (z : Outcome). Some z) (run-back old new k was o runs (ap is_answered here ∙ lacks) ∙ here))
     (λ other. sym (slice_get-set_else os place j o other) ∙ at)
 
-same-memory : (old new : BookState) → new.room ≡ old.room → new.history ≡ old.history → memory_of new ≡ memory_of old
+same-memory : (old new : BookState) → new.bounds ≡ old.bounds → new.history ≡ old.history → memory_of new ≡ memory_of old
 same-memory old new rooms histories = λ j. replay (rooms j) (histories j)
 
-grown-memory : (old new : BookState) (k : ℕ) (calls : List Call) → new.room ≡ old.room → new.history ≡ old.history ++ block_entries old.history k calls → memory_of new ≡ after (memory_of old) calls
+grown-memory : (old new : BookState) (k : ℕ) (calls : List Call) → new.bounds ≡ old.bounds → new.history ≡ old.history ++ block_entries old.history k calls → memory_of new ≡ after (memory_of old) calls
 grown-memory old new k calls rooms grows =
     (λ j. replay (rooms j) (grows j))
-    ∙ replay_from-append (empty old.room) old.history (block_entries old.history k calls)
+    ∙ replay_from-append (empty old.bounds) old.history (block_entries old.history k calls)
     ∙ replay_from-after (memory_of old) (block_entries old.history k calls)
     ∙ ap (after (memory_of old)) (calls-block old.history k calls)
 
@@ -320,27 +321,27 @@ sure-turn old new k os done place was o there runs sure all = record { waits = w
 pub one-more : (done ps : List ℕ) (k : ℕ) → k < length ps → done ++ take k ps ++ slice_index ps k ∷ [] ≡ done ++ take (k + 1) ps
 one-more done ps k lt = append_assoc done (take k ps) (slice_index ps k ∷ []) ∙ ap (λ l. done ++ l) (sym (take_more ps k 0 lt))
 
-pub serving_more : (room now : ℕ) (line mid : List Entry) (rs : List Request) (done ps : List ℕ) (k place : ℕ) (os : List Outcome) → now ≡ room → place ≡ slice_index ps k → k < length ps
-    → All (IsOutside done) ps → AllPairs (λ p q. p < q) ps → Serving room line rs (done ++ take k ps) mid os
+pub serving_more : (bounds now : Bounds) (line mid : List Entry) (rs : List Request) (done ps : List ℕ) (k place : ℕ) (os : List Outcome) → now ≡ bounds → place ≡ slice_index ps k → k < length ps
+    → All (IsOutside done) ps → AllPairs (λ p q. p < q) ps → Serving bounds line rs (done ++ take k ps) mid os
     → (new : List Entry) (after : List Outcome) → (IsOutside (done ++ take k ps) place → Serving now line rs (done ++ take k ps) mid os → Serving now line rs (done ++ take k ps ++ place ∷ []) new after)
-    → Serving room line rs (done ++ take (k + 1) ps) new after
-serving_more room now line mid rs done ps k place os rooms is lt outside rising s new after turn =
+    → Serving bounds line rs (done ++ take (k + 1) ps) new after
+serving_more bounds now line mid rs done ps k place os rooms is lt outside rising s new after turn =
     let out : IsOutside (done ++ take k ps) place = subst (IsOutside (done ++ take k ps)) (sym is) (outside-append done (take k ps) (slice_index ps k) (outside k 0 lt) (rising-outside ps k rising lt)) in
-    let at_room = subst (λ (r : ℕ). Serving r line rs (done ++ take k ps) mid os) (sym rooms) s in
-    subst (λ (l : List ℕ). Serving room line rs l new after) (ap (λ (p : ℕ). done ++ take k ps ++ p ∷ []) is ∙ one-more done ps k lt)
-    (subst (λ (r : ℕ). Serving r line rs (done ++ take k ps ++ place ∷ []) new after) rooms (turn out at_room))
+    let at_room = subst (λ (r : Bounds). Serving r line rs (done ++ take k ps) mid os) (sym rooms) s in
+    subst (λ (l : List ℕ). Serving bounds line rs l new after) (ap (λ (p : ℕ). done ++ take k ps ++ p ∷ []) is ∙ one-more done ps k lt)
+    (subst (λ (r : Bounds). Serving r line rs (done ++ take k ps ++ place ∷ []) new after) rooms (turn out at_room))
 
 -- one more wave
-pub serving_wave : (room now : ℕ) (line mid : List Entry) (rs : List Request) (done ps all : List ℕ) (os : List Outcome) (new : List Entry) (after : List Outcome) → now ≡ room → done ++ ps ≡ all
-    → All (IsOutside done) ps → Serving room line rs done mid os → (All (IsOutside done) ps → Serving now line rs done mid os → Serving now line rs (done ++ ps) new after) → Serving room line rs all new after
-serving_wave room now line mid rs done ps all os new after rooms next outside s turns =
-    subst (λ (l : List ℕ). Serving room line rs l new after) next
-    (subst (λ (r : ℕ). Serving r line rs (done ++ ps) new after) rooms (turns outside (subst (λ (r : ℕ). Serving r line rs done mid os) (sym rooms) s)))
+pub serving_wave : (bounds now : Bounds) (line mid : List Entry) (rs : List Request) (done ps all : List ℕ) (os : List Outcome) (new : List Entry) (after : List Outcome) → now ≡ bounds → done ++ ps ≡ all
+    → All (IsOutside done) ps → Serving bounds line rs done mid os → (All (IsOutside done) ps → Serving now line rs done mid os → Serving now line rs (done ++ ps) new after) → Serving bounds line rs all new after
+serving_wave bounds now line mid rs done ps all os new after rooms next outside s turns =
+    subst (λ (l : List ℕ). Serving bounds line rs l new after) next
+    (subst (λ (r : Bounds). Serving r line rs (done ++ ps) new after) rooms (turns outside (subst (λ (r : Bounds). Serving r line rs done mid os) (sym rooms) s)))
 
 -- behind the last wave
-pub serving_end : (room : ℕ) (line : List Entry) (rs : List Request) (ws : List ℕ) (mid : List Entry) (os : List Outcome) → ws ≡ waves_of (map asked rs) → length ws ≡ length (zip rs os)
-    → Serving room line rs (places_of_first ws (count_of ws)) mid os → ServesInOrder room line rs mid os
-serving_end room line rs ws mid os are long s = record {
+pub serving_end : (bounds : Bounds) (line : List Entry) (rs : List Request) (ws : List ℕ) (mid : List Entry) (os : List Outcome) → ws ≡ waves_of (map asked rs) → length ws ≡ length (zip rs os)
+    → Serving bounds line rs (places_of_first ws (count_of ws)) mid os → ServesInOrder bounds line rs mid os
+serving_end bounds line rs ws mid os are long s = record {
   fits = s.fits;
   paired = s.paired;
   added = s.added;

@@ -2,6 +2,7 @@
 -- `ServesInOrder` is the promise: what came of each request, and in which order the history grew.
 use Rattle.std.specs.Prelude.{◌≡◌, ◌⊎◌, ℕ, Bool, true, false, List, [], ◌∷◌, ◌++◌, length, map, filter}
 use Rattle.std.specs.List.{AllByRecursion, flat_map, zip}
+use Rattle.vector_memory.specs.declared.bounds.Bounds.{Bounds}
 use Rattle.vector_memory.specs.States.{State}
 use Rattle.cvl_text.specs.declared.call.Call.{Call}
 use Rattle.cvl_text.specs.Answers.{Answer, answer_of}
@@ -39,8 +40,8 @@ calls_asked r = map (λ c. (r.caller, c)) (calls_of r.job)
 
 -- The history `new` is `old` with these requests served, and these are their outcomes. The calls that were added are those that
 -- were answered, wave after wave, those of a block next to one another. No block is cut.
-pub record ServesInOrder (room : ℕ) (old : List Entry) (requests : List Request) (new : List Entry) (outcomes : List Outcome) : Type 0 where
-  pub fits : Fits room old requests new outcomes
+pub record ServesInOrder (bounds : Bounds) (old : List Entry) (requests : List Request) (new : List Entry) (outcomes : List Outcome) : Type 0 where
+  pub fits : Fits bounds old requests new outcomes
   pub paired : length outcomes ≡ length requests
   pub added : List Entry
   pub grown : new ≡ old ++ added
@@ -50,12 +51,12 @@ pub record ServesInOrder (room : ℕ) (old : List Entry) (requests : List Reques
 -- calls of a caller ran behind the history, at this place, with these replies
 abbrev pub RunsCalls : BookState → BookState → ℕ → List Call → ℕ → List Answer → Type 0
 RunsCalls old new k calls place replies =
-    (new.room ≡ old.room) × (new.history ≡ old.history ++ block_entries old.history k calls) × (place ≡ length old.history)
+    (new.bounds ≡ old.bounds) × (new.history ≡ old.history ++ block_entries old.history k calls) × (place ≡ length old.history)
     × (replies ≡ replies_from (memory_of old) (block_entries old.history k calls))
 
 -- the history stayed, and this is the outcome
 abbrev pub StaysWith : BookState → BookState → Outcome → Outcome → Type 0
-StaysWith old new was outcome = (new.room ≡ old.room) × (new.history ≡ old.history) × (outcome ≡ was)
+StaysWith old new was outcome = (new.bounds ≡ old.bounds) × (new.history ≡ old.history) × (outcome ≡ was)
 
 -- a job of a caller ran behind the history, or came back
 abbrev pub RunsJob : BookState → BookState → ℕ → Job → Outcome → Type 0

@@ -2,6 +2,7 @@
 use Rattle.std.specs.Prelude.{◌≡◌, ℕ, ◌<◌, false, List, ◌++◌, length, map, take, slice_get, slice_index, Some}
 use Rattle.std.specs.List.{flat_map, zip}
 use Rattle.std.specs.Option.{option_map}
+use Rattle.vector_memory.specs.declared.bounds.Bounds.{Bounds}
 use Rattle.vector_memory.specs.States.{State}
 use Rattle.cvl_text.specs.declared.call.Call.{Call}
 use Rattle.cvl_text.specs.Tasks.{task_of}
@@ -20,8 +21,8 @@ use Rattle.batch_flatten.specs.Places.{IsOutside, at_places}
 use Rattle.batch_flatten.specs.Batches.{HasAnswer, RunsJob, StaysWith, StepsOrStays, answered, call_by, calls_asked, calls_back, is_answered, tasks_back}
 
 -- the requests at these places were served, one after the other, and the calls of the others are back
-pub record Serving (room : ℕ) (old : List Entry) (requests : List Request) (done : List ℕ) (mid : List Entry) (outcomes : List Outcome) : Type 0 where
-  pub fits : Fits room old requests mid outcomes
+pub record Serving (bounds : Bounds) (old : List Entry) (requests : List Request) (done : List ℕ) (mid : List Entry) (outcomes : List Outcome) : Type 0 where
+  pub fits : Fits bounds old requests mid outcomes
   pub paired : length outcomes ≡ length requests
   pub added : List Entry
   pub grown : mid ≡ old ++ added

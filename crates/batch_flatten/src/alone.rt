@@ -108,8 +108,8 @@ pub(crate) fn serve_alone(
     requires jobs { AllByRecursion (λ r. IsLawfulJob r.job) requests.old.items }
     requires empty { outcomes.old.items ≡ [] }
     requires spaces { vec_len requests.old ≤ vec_capacity outcomes.old }
-    ensures serves { ServesInOrder book.old.room book.old.history requests.old.items book.new.history outcomes.new.items }
-    ensures room { book.new.room ≡ book.old.room }
+    ensures serves { ServesInOrder book.old.bounds book.old.history requests.old.items book.new.history outcomes.new.items }
+    ensures bounds { book.new.bounds ≡ book.old.bounds }
     ensures waves { (result.waves ≡ wave_count requests.old.items)
         ⊎ ((result ≡ Ran.NOTHING) × (book.new.history ≡ book.old.history) × (outcomes.new.items ≡ map returned requests.old.items)) }
     ensures sure { 0 < result.waves → AnswersAllSure requests.old.items outcomes.new.items }

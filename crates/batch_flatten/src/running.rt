@@ -39,14 +39,14 @@ fn serve_waves(
     requires words { AreNoted roll.now.words outcomes.old.items }
     requires apart { AreApart roll.now.waves outcomes.old.items }
     ensures serves { (line : List Entry) (rs : List Request) → AreAskedBy rs roll.now.callers
-        → Serving book.old.room line rs [] book.old.history outcomes.old.items
-        → Serving book.old.room line rs (places_of_first (take (vec_len outcomes.old) roll.now.waves) roll.now.count) book.new.history outcomes.new.items }
+        → Serving book.old.bounds line rs [] book.old.history outcomes.old.items
+        → Serving book.old.bounds line rs (places_of_first (take (vec_len outcomes.old) roll.now.waves) roll.now.count) book.new.history outcomes.new.items }
     ensures sure { AnswersSure outcomes.new.items (places_of_first (take (vec_len outcomes.old) roll.now.waves) roll.now.count) }
     ensures counted { RisesBy (kernels_below (take (vec_len outcomes.old) roll.now.waves) (take (vec_len outcomes.old) roll.now.words)
         (sizes_back outcomes.old.items) roll.now.count + result) meter.old meter.new }
     ensures few_singles { result ≤ vec_len outcomes.old }
     ensures back { WereBack outcomes.old.items outcomes.new.items }
-    ensures room { book.new.room ≡ book.old.room }
+    ensures bounds { book.new.bounds ≡ book.old.bounds }
     ensures count { vec_len outcomes.new ≡ vec_len outcomes.old }
     ensures spaces { vec_capacity outcomes.new ≡ vec_capacity outcomes.old }
 {
@@ -93,8 +93,8 @@ pub fn run_batch(
     requires distinct { AllPairs (λ r s. r.caller ≢ s.caller) requests.old.items }
     requires empty { outcomes.old.items ≡ [] }
     requires spaces { vec_len requests.old ≤ vec_capacity outcomes.old }
-    ensures serves { ServesInOrder book.old.room book.old.history requests.old.items book.new.history outcomes.new.items }
-    ensures room { book.new.room ≡ book.old.room }
+    ensures serves { ServesInOrder book.old.bounds book.old.history requests.old.items book.new.history outcomes.new.items }
+    ensures bounds { book.new.bounds ≡ book.old.bounds }
     ensures waves { (result.waves ≡ wave_count requests.old.items)
         ⊎ ((result ≡ Ran.NOTHING) × (book.new.history ≡ book.old.history) × (outcomes.new.items ≡ map returned requests.old.items)) }
     ensures sure { 0 < result.waves → AnswersAllSure requests.old.items outcomes.new.items }

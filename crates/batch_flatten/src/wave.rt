@@ -66,14 +66,14 @@ fn serve_place(
     requires space { count_back outcomes.old.items ≤ book.old.spaces }
     requires ready { IsReadyWork (memory_of book.old) (slice_get outcomes.old.items place) work }
     ensures serves { (line : List Entry) (rs : List Request) (done : List ℕ) → AreAskedBy rs callers.now → IsOutside done place
-        → Serving book.old.room line rs done book.old.history outcomes.old.items
-        → Serving book.old.room line rs (done ++ place ∷ []) book.new.history outcomes.new.items }
+        → Serving book.old.bounds line rs done book.old.history outcomes.old.items
+        → Serving book.old.bounds line rs (done ++ place ∷ []) book.new.history outcomes.new.items }
     ensures sure { (done : List ℕ) → AnswersSure outcomes.old.items done → AnswersSure outcomes.new.items (done ++ place ∷ []) }
     ensures memory { (was : Outcome) → slice_get outcomes.old.items place ≡ Some was
         → TurnsMemory (memory_of book.old) (memory_of book.new) was }
     ensures others { (p : ℕ) → p ≢ place → slice_get outcomes.new.items p ≡ slice_get outcomes.old.items p }
     ensures back { WereBack outcomes.old.items outcomes.new.items }
-    ensures room { book.new.room ≡ book.old.room }
+    ensures bounds { book.new.bounds ≡ book.old.bounds }
     ensures space { count_back outcomes.new.items ≤ book.new.spaces }
     ensures counted { CountsTurn (slice_get outcomes.old.items place) work meter.old meter.new }
     ensures count { vec_len outcomes.new ≡ vec_len outcomes.old }
@@ -126,8 +126,8 @@ fn serve_next(
     requires together { AreOpenTogether words.now turns.old position }
     ensures serves { (line : List Entry) (rs : List Request) (done : List ℕ) → AreAskedBy rs callers.now
         → IsOutside done (slice_index places.now position)
-        → Serving book.old.room line rs done book.old.history outcomes.old.items
-        → Serving book.old.room line rs (done ++ slice_index places.now position ∷ []) book.new.history outcomes.new.items }
+        → Serving book.old.bounds line rs done book.old.history outcomes.old.items
+        → Serving book.old.bounds line rs (done ++ slice_index places.now position ∷ []) book.new.history outcomes.new.items }
     ensures sure { (done : List ℕ) → AnswersSure outcomes.old.items done
         → AnswersSure outcomes.new.items (done ++ slice_index places.now position ∷ []) }
     ensures prepared { ArePrepared (memory_of book.new) outcomes.new.items places.now words.now turns.new works.new.items (position + 1) }
@@ -138,7 +138,7 @@ fn serve_next(
         + (others + size_at outcomes.old.items (slice_index places.now position) + result)) start meter.new }
     ensures one { result ≤ 1 }
     ensures back { WereBack outcomes.old.items outcomes.new.items }
-    ensures room { book.new.room ≡ book.old.room }
+    ensures bounds { book.new.bounds ≡ book.old.bounds }
     ensures space { count_back outcomes.new.items ≤ book.new.spaces }
     ensures count { vec_len outcomes.new ≡ vec_len outcomes.old }
     ensures spaces { vec_capacity outcomes.new ≡ vec_capacity outcomes.old }
@@ -188,13 +188,13 @@ pub(crate) fn serve_wave(
     requires apart { AllPairs (DoNotClash outcomes.old.items) places.now }
     ensures serves { (line : List Entry) (rs : List Request) (done : List ℕ) → AreAskedBy rs callers.now
         → All (IsOutside done) places.now
-        → Serving book.old.room line rs done book.old.history outcomes.old.items
-        → Serving book.old.room line rs (done ++ places.now) book.new.history outcomes.new.items }
+        → Serving book.old.bounds line rs done book.old.history outcomes.old.items
+        → Serving book.old.bounds line rs (done ++ places.now) book.new.history outcomes.new.items }
     ensures sure { (done : List ℕ) → AnswersSure outcomes.old.items done → AnswersSure outcomes.new.items (done ++ places.now) }
     ensures counted { RisesBy (different_kernels words.now + (sum (at_places (sizes_back outcomes.old.items) places.now) + result)) meter.old meter.new }
     ensures few_singles { result ≤ length places.now }
     ensures back { WereBack outcomes.old.items outcomes.new.items }
-    ensures room { book.new.room ≡ book.old.room }
+    ensures bounds { book.new.bounds ≡ book.old.bounds }
     ensures space { count_back outcomes.new.items ≤ book.new.spaces }
     ensures count { vec_len outcomes.new ≡ vec_len outcomes.old }
     ensures spaces { vec_capacity outcomes.new ≡ vec_capacity outcomes.old }

@@ -8,6 +8,7 @@ use lib.ListN.{get_elem?}
 use prog.Atomic.{either}
 use Rattle.atomic_table.specs.Table.{State, step, keeps, takes, gives, stepped, Allows, rest}
 use Rattle.atomic_table.proofs.Lists.{set_again}
+use Rattle.vector_memory.specs.declared.bounds.Bounds.{Bounds}
 use Rattle.cvl_text.specs.declared.call.Call.{Call}
 use Rattle.call_history.specs.declared.entry.Entry.{Entry}
 use Rattle.call_history.specs.declared.request.Job.{Job}
@@ -46,8 +47,8 @@ code_done posted e = absurd (omega arith)
 code_done taken e = absurd (omega arith)
 code_done done e = refl
 
-module _ (room : ℕ) (s : State Slot View) (r : Lawful room s) (id : ℕ) (c : Known) (there : get_elem? s.views id ≡ some (Caller c)) where
-  abbrev knows : Knows room r.n r.made r.line r.lock r.station id (Caller c)
+module _ (bounds : Bounds) (s : State Slot View) (r : Lawful bounds s) (id : ℕ) (c : Known) (there : get_elem? s.views id ≡ some (Caller c)) where
+  abbrev knows : Knows bounds r.n r.made r.line r.lock r.station id (Caller c)
   knows = r.each_seat id (Caller c) there
 
   abbrev here : Station
@@ -65,29 +66,29 @@ module _ (room : ℕ) (s : State Slot View) (r : Lawful room s) (id : ℕ) (c : 
 
   -- the seats other than the caller's, after a step that moves only its own station
   abbrev others_stay : (st : Station) → ((r.station c.standing.number).held ≡ true → st.held ≡ true)
-      → (j : ℕ) → j ≢ id → (v : View) → Knows room r.n r.made r.line r.lock r.station j v → Knows room r.n r.made r.line r.lock (put r.station c.standing.number st) j v
-  others_stay st up = others_know room r.n r.made r.line r.line r.lock r.lock r.station (put r.station c.standing.number st) c.standing.number id knows.seat_is (begins_self r.line) (λ i other. refl)
+      → (j : ℕ) → j ≢ id → (v : View) → Knows bounds r.n r.made r.line r.lock r.station j v → Knows bounds r.n r.made r.line r.lock (put r.station c.standing.number st) j v
+  others_stay st up = others_know bounds r.n r.made r.line r.line r.lock r.lock r.station (put r.station c.standing.number st) c.standing.number id knows.seat_is (begins_self r.line) (λ i other. refl)
       (put_abides r.station c.standing.number st) (put_rises r.station c.standing.number st up)
 
-  post_keeps : (job : Job) → IsLawfulJob job → c.standing.phase ≡ Idle → c.pass ≡ None → Lawful room (moved s c.standing.number 2 (some (Asked job)) id (Caller (with_standing c (leaving_job c.standing job))))
+  post_keeps : (job : Job) → IsLawfulJob job → c.standing.phase ≡ Idle → c.pass ≡ None → Lawful bounds (moved s c.standing.number 2 (some (Asked job)) id (Caller (with_standing c (leaving_job c.standing job))))
   post_keeps job lawful at_rest no_pass =
       let st : Station = posted_station job in
       let held = r.each_caller c.standing.number inside in
       let phase = subst (PhaseHolds c.standing.number c.standing.seen c.standing.own here) at_rest knows.phase in
-      let stage = subst (StageHolds room r.line (part_of r.lock c.standing.number) (get_elem? s.homes (c.standing.number + 1)) c.standing.number here) phase.stage_is held.stage_holds in
+      let stage = subst (StageHolds bounds r.line (part_of r.lock c.standing.number) (get_elem? s.homes (c.standing.number + 1)) c.standing.number here) phase.stage_is held.stage_holds in
       let rises = put_rises r.station c.standing.number st (λ e. e) in
-      caller_step room s r c.standing.number 2 (some (Asked job)) st r.lock id (Caller c) (Caller (with_standing c (leaving_job c.standing job))) inside knows.number_made there refl refl (λ i other. refl)
+      caller_step bounds s r c.standing.number 2 (some (Asked job)) st r.lock id (Caller c) (Caller (with_standing c (leaving_job c.standing job))) inside knows.number_made there refl refl (λ i other. refl)
       record {
         word_is = refl;
         request_is = held.request_is ∙ ap (λ (z : Stage). request_at z here.job) phase.stage_is;
         stage_holds = record { home_is = refl; lawful = lawful; begins = knows.fronts.seen_begins; own_is = stage.own_is };
       }
       r.lock_holds
-      (subst (λ (z : Station). CallerKnows room r.n r.made r.line (pass_of r.lock c.standing.number) z (λ m. (put r.station c.standing.number st m).held) id (with_standing c (leaving_job c.standing job))) (sym (put_here r.station c.standing.number st)) record {
+      (subst (λ (z : Station). CallerKnows bounds r.n r.made r.line (pass_of r.lock c.standing.number) z (λ m. (put r.station c.standing.number st m).held) id (with_standing c (leaving_job c.standing job))) (sym (put_here r.station c.standing.number st)) record {
         number_made = knows.number_made;
         inside = knows.inside;
         seat_is = knows.seat_is;
-        room_is = knows.room_is;
+        bounds_is = knows.bounds_is;
         own_is = knows.own_is;
         fronts = record { seen_begins = knows.fronts.seen_begins; told_begins = knows.fronts.told_begins; start_begins = knows.fronts.seen_begins; seen_whole = knows.fronts.seen_whole; told_whole = knows.fronts.told_whole };
         pass_is = knows.pass_is;
@@ -103,23 +104,23 @@ module _ (room : ℕ) (s : State Slot View) (r : Lawful room s) (id : ℕ) (c : 
   collected seen own = record c.standing { seen = seen; own = own; phase = Idle; settled = false }
 
   collect_keeps : (seen : List Entry) (own : List Call) → here.stage ≡ done → Begins seen r.line → Whole seen → calls_by c.standing.number seen ≡ own → calls_by c.standing.number r.line ≡ own
-      → Lawful room (moved s c.standing.number 1 none id (Caller (with_standing c (collected seen own))))
+      → Lawful bounds (moved s c.standing.number 1 none id (Caller (with_standing c (collected seen own))))
   collect_keeps seen own at_end saw whole had has =
       let st : Station = record { stage = idle; seat = here.seat; own = own; job = here.job; start = here.start; held = here.held } in
       let held = r.each_caller c.standing.number inside in
       let rises = put_rises r.station c.standing.number st (λ e. e) in
-      caller_step room s r c.standing.number 1 none st r.lock id (Caller c) (Caller (with_standing c (collected seen own))) inside knows.number_made there refl refl (λ i other. refl)
+      caller_step bounds s r c.standing.number 1 none st r.lock id (Caller c) (Caller (with_standing c (collected seen own))) inside knows.number_made there refl refl (λ i other. refl)
       record {
         word_is = refl;
         request_is = held.request_is ∙ ap (λ (z : Stage). request_at z here.job) at_end;
         stage_holds = record { home_is = refl; own_is = has };
       }
       r.lock_holds
-      (subst (λ (z : Station). CallerKnows room r.n r.made r.line (pass_of r.lock c.standing.number) z (λ m. (put r.station c.standing.number st m).held) id (with_standing c (collected seen own))) (sym (put_here r.station c.standing.number st)) record {
+      (subst (λ (z : Station). CallerKnows bounds r.n r.made r.line (pass_of r.lock c.standing.number) z (λ m. (put r.station c.standing.number st m).held) id (with_standing c (collected seen own))) (sym (put_here r.station c.standing.number st)) record {
         number_made = knows.number_made;
         inside = knows.inside;
         seat_is = knows.seat_is;
-        room_is = knows.room_is;
+        bounds_is = knows.bounds_is;
         own_is = refl;
         fronts = record { seen_begins = saw; told_begins = knows.fronts.told_begins; start_begins = begins_empty r.line; seen_whole = whole; told_whole = knows.fronts.told_whole };
         pass_is = knows.pass_is;
@@ -131,14 +132,14 @@ module _ (room : ℕ) (s : State Slot View) (r : Lawful room s) (id : ℕ) (c : 
       (holder_follows s.views r.station (put r.station c.standing.number st) r.lock id c (with_standing c (collected seen own)) there refl (put_seat r.station c.standing.number st refl) knows.seat_is knows.pass_is r.holder_sits)
 
   -- the outcome of the job that was left gives the caller's new front and record
-  collect_fate : IsLeft c.standing → (fate : Fate) → FateHolds room r.line c.standing.number here.own (calls_of here.job) here.start fate
+  collect_fate : IsLeft c.standing → (fate : Fate) → FateHolds bounds r.line c.standing.number here.own (calls_of here.job) here.start fate
       → (seen : List Entry) × (own : List Call) × Begins seen r.line × Whole seen × (calls_by c.standing.number seen ≡ own) × (calls_by c.standing.number r.line ≡ own) × Collected c.standing fate (collected seen own)
   collect_fate is (StandsAt place replies) h =
       let calls : List Call = left_calls c.standing.phase in
       let phase = subst (PhaseHolds c.standing.number c.standing.seen c.standing.own here) is knows.phase in
       let same_calls : calls_of here.job ≡ calls = ap calls_of (sym phase.job_is) ∙ sym (ap left_calls is) in
-      let f = subst (λ (z : ℕ × List Call × (List Call) × List Entry). FateHolds z.0 r.line c.standing.number z.1 z.2 z.3 (StandsAt place replies))
-      (λ j. (sym knows.room_is j, sym knows.own_is j, same_calls j, sym phase.start_is j)) h in
+      let f = subst (λ (z : Bounds × List Call × (List Call) × List Entry). FateHolds z.0 r.line c.standing.number z.1 z.2 z.3 (StandsAt place replies))
+      (λ j. (sym knows.bounds_is j, sym knows.own_is j, same_calls j, sym phase.start_is j)) h in
       let history : List Entry = take (place + length calls) r.line in
       let both = longer_begins c.standing.seen history r.line knows.fronts.seen_begins (take_begins (place + length calls) r.line) in (
         longer c.standing.seen history,
@@ -168,57 +169,57 @@ module _ (room : ℕ) (s : State Slot View) (r : Lawful room s) (id : ℕ) (c : 
       let phase = subst (PhaseHolds c.standing.number c.standing.seen c.standing.own here) is knows.phase in
       subst (λ (z : Job). IsOfJob z o) (sym phase.job_is) h
 
-posts_at : (room slots id : ℕ) (me : Sat) (job : Job) → IsLawfulJob job → let c : Known = known_of me.0 in me.0 ≡ Caller c → c.standing.phase ≡ Idle → c.pass ≡ None → me.1 ≡ (c.standing.number + 1, Asked job) ∷ rest me.1
-    → Allows (Lawful room) slots id me (own_word c.standing.number) (λ x. either (eqb x 1) 2 x) (Posts (step slots (own_word c.standing.number) 1 2 none) me)
-posts_at room slots id me job lawful is at_rest no_pass hand s r deep at small =
+posts_at : (bounds : Bounds) (slots id : ℕ) (me : Sat) (job : Job) → IsLawfulJob job → let c : Known = known_of me.0 in me.0 ≡ Caller c → c.standing.phase ≡ Idle → c.pass ≡ None → me.1 ≡ (c.standing.number + 1, Asked job) ∷ rest me.1
+    → Allows (Lawful bounds) slots id me (own_word c.standing.number) (λ x. either (eqb x 1) 2 x) (Posts (step slots (own_word c.standing.number) 1 2 none) me)
+posts_at bounds slots id me job lawful is at_rest no_pass hand s r deep at small =
     let c : Known = known_of me.0 in let i : ℕ = own_word c.standing.number in let x : ℕ = get_or s.words i 0 in
     let there : get_elem? s.views id ≡ some (Caller c) = at ∙ ap (λ (v : View). some v) is in
-    let found : x ≡ 1 = idle_word room s r id c there at_rest in (
+    let found : x ≡ 1 = idle_word bounds s r id c there at_rest in (
       Caller (with_standing c (leaving_job c.standing (job_in_hand me.1))),
       gives,
       tt,
-      subst (λ (z : Bool × List (ℕ × Slot)). Lawful room (stepped s i (either z.0 2 x) id z.1 (Caller (with_standing c (leaving_job c.standing (job_in_hand z.1)))) gives))
-          (λ j. (sym (eq-eqb x 1 found) j, sym hand j)) (post_keeps room s r id c there job lawful at_rest no_pass),
+      subst (λ (z : Bool × List (ℕ × Slot)). Lawful bounds (stepped s i (either z.0 2 x) id z.1 (Caller (with_standing c (leaving_job c.standing (job_in_hand z.1)))) gives))
+          (λ j. (sym (eq-eqb x 1 found) j, sym hand j)) (post_keeps bounds s r id c there job lawful at_rest no_pass),
       (found, refl, refl),
     )
 
-collects_at : (room slots id : ℕ) (me : Sat) → let c : Known = known_of me.0 in me.0 ≡ Caller c → IsLeft c.standing
-    → Allows (Lawful room) slots id me (own_word c.standing.number) (λ x. either (eqb x 4) 1 x) (Collects (step slots (own_word c.standing.number) 4 1 none) me)
-collects_at room slots id me is left s r deep at small =
+collects_at : (bounds : Bounds) (slots id : ℕ) (me : Sat) → let c : Known = known_of me.0 in me.0 ≡ Caller c → IsLeft c.standing
+    → Allows (Lawful bounds) slots id me (own_word c.standing.number) (λ x. either (eqb x 4) 1 x) (Collects (step slots (own_word c.standing.number) 4 1 none) me)
+collects_at bounds slots id me is left s r deep at small =
     let c : Known = known_of me.0 in let i : ℕ = own_word c.standing.number in let x : ℕ = get_or s.words i 0 in
     let there : get_elem? s.views id ≡ some (Caller c) = at ∙ ap (λ (v : View). some v) is in
     let knows = r.each_seat id (Caller c) there in
-    let held = r.each_caller c.standing.number (inside room s r id c there) in
+    let held = r.each_caller c.standing.number (inside bounds s r id c there) in
     dite (ℕ_discrete x 4)
     (λ hit. let at_end = code_done (r.station c.standing.number).stage (sym held.word_is ∙ hit) in
-    let told = subst (StageHolds room r.line (part_of r.lock c.standing.number) (get_elem? s.homes (c.standing.number + 1)) c.standing.number (r.station c.standing.number)) at_end held.stage_holds in
-    let new = collect_fate room s r id c there left (fate_of told.outcome) told.fate in
-    let kind = collect_kind room s r id c there left told.outcome told.of_job in (
-      Caller (with_standing c (collected room s r id c there new.0 new.1)),
+    let told = subst (StageHolds bounds r.line (part_of r.lock c.standing.number) (get_elem? s.homes (c.standing.number + 1)) c.standing.number (r.station c.standing.number)) at_end held.stage_holds in
+    let new = collect_fate bounds s r id c there left (fate_of told.outcome) told.fate in
+    let kind = collect_kind bounds s r id c there left told.outcome told.of_job in (
+      Caller (with_standing c (collected bounds s r id c there new.0 new.1)),
       takes (c.standing.number + 1) (Told told.outcome),
       told.home_is,
-      subst (λ b. Lawful room (stepped s i (either b 1 x) id me.1 (Caller (with_standing c (collected room s r id c there new.0 new.1))) (takes (c.standing.number + 1) (Told told.outcome)))) (sym (eq-eqb x 4 hit))
-          (collect_keeps room s r id c there new.0 new.1 at_end new.2 new.3 new.4 new.5),
-      ((λ _. (told.outcome, collected room s r id c there new.0 new.1, refl, refl, new.6, ((λ _. (new.4, refl)), begins_of_callers slots r.n new.0 r.line (sym deep ∙ r.deep) new.2 r.line_holds.no_strangers, new.3), kind)), λ miss. absurd (miss hit)),
+      subst (λ b. Lawful bounds (stepped s i (either b 1 x) id me.1 (Caller (with_standing c (collected bounds s r id c there new.0 new.1))) (takes (c.standing.number + 1) (Told told.outcome)))) (sym (eq-eqb x 4 hit))
+          (collect_keeps bounds s r id c there new.0 new.1 at_end new.2 new.3 new.4 new.5),
+      ((λ _. (told.outcome, collected bounds s r id c there new.0 new.1, refl, refl, new.6, ((λ _. (new.4, refl)), begins_of_callers slots r.n new.0 r.line (sym deep ∙ r.deep) new.2 r.line_holds.no_strangers, new.3), kind)), λ miss. absurd (miss hit)),
     ))
     (λ miss. (
       me.0,
       keeps,
       tt,
-      subst (λ b. Lawful room (stepped s i (either b 1 x) id me.1 me.0 keeps)) (sym (ne_eqb x 4 miss))
-          (view_step room s r i id me.0 me.0 at refl (r.each_seat id me.0 at) (subst (λ vs. HolderSits vs r.station r.lock) (sym (set_again s.views id me.0 at)) r.holder_sits)),
+      subst (λ b. Lawful bounds (stepped s i (either b 1 x) id me.1 me.0 keeps)) (sym (ne_eqb x 4 miss))
+          (view_step bounds s r i id me.0 me.0 at refl (r.each_seat id me.0 at) (subst (λ vs. HolderSits vs r.station r.lock) (sym (set_again s.views id me.0 at)) r.holder_sits)),
       ((λ hit. absurd (miss hit)), λ _. (refl, not_true c.standing.settled (λ e. miss (held.word_is ∙ ap code (knows.settled.done e))))),
     ))
 
 -- the same for a caller of this number, which has put its job into its slot
-pub posts : (room slots id k : ℕ) (old me : Sat) (job : Job) → IsLawfulJob job → me ≡ (old.0, (k + 1, Asked job) ∷ rest old.1) → old.0 ≡ Caller (known_of old.0) → (known_of old.0).standing.number ≡ k
-    → (known_of old.0).standing.phase ≡ Idle → (known_of old.0).pass ≡ None → Allows (Lawful room) slots id me (own_word k) (λ x. either (eqb x 1) 2 x) (Posts (step slots (own_word k) 1 2 none) me)
-posts room slots id k old me job lawful put is number at_rest no_pass =
-    subst (λ (m : Sat). Allows (Lawful room) slots id m (own_word k) (λ x. either (eqb x 1) 2 x) (Posts (step slots (own_word k) 1 2 none) m)) (sym put)
-    (subst (λ (z : ℕ). Allows (Lawful room) slots id (old.0, (z + 1, Asked job) ∷ rest old.1) (own_word z) (λ x. either (eqb x 1) 2 x) (Posts (step slots (own_word z) 1 2 none) (old.0, (z + 1, Asked job) ∷ rest old.1)))
-    number (posts_at room slots id (old.0, ((known_of old.0).standing.number + 1, Asked job) ∷ rest old.1) job lawful is at_rest no_pass refl))
+pub posts : (bounds : Bounds) (slots id k : ℕ) (old me : Sat) (job : Job) → IsLawfulJob job → me ≡ (old.0, (k + 1, Asked job) ∷ rest old.1) → old.0 ≡ Caller (known_of old.0) → (known_of old.0).standing.number ≡ k
+    → (known_of old.0).standing.phase ≡ Idle → (known_of old.0).pass ≡ None → Allows (Lawful bounds) slots id me (own_word k) (λ x. either (eqb x 1) 2 x) (Posts (step slots (own_word k) 1 2 none) me)
+posts bounds slots id k old me job lawful put is number at_rest no_pass =
+    subst (λ (m : Sat). Allows (Lawful bounds) slots id m (own_word k) (λ x. either (eqb x 1) 2 x) (Posts (step slots (own_word k) 1 2 none) m)) (sym put)
+    (subst (λ (z : ℕ). Allows (Lawful bounds) slots id (old.0, (z + 1, Asked job) ∷ rest old.1) (own_word z) (λ x. either (eqb x 1) 2 x) (Posts (step slots (own_word z) 1 2 none) (old.0, (z + 1, Asked job) ∷ rest old.1)))
+    number (posts_at bounds slots id (old.0, ((known_of old.0).standing.number + 1, Asked job) ∷ rest old.1) job lawful is at_rest no_pass refl))
 
-pub collects : (room slots id k : ℕ) (me : Sat) → me.0 ≡ Caller (known_of me.0) → (known_of me.0).standing.number ≡ k → IsLeft (known_of me.0).standing
-    → Allows (Lawful room) slots id me (own_word k) (λ x. either (eqb x 4) 1 x) (Collects (step slots (own_word k) 4 1 none) me)
-collects room slots id k me is number left =
-    subst (λ (z : ℕ). Allows (Lawful room) slots id me (own_word z) (λ x. either (eqb x 4) 1 x) (Collects (step slots (own_word z) 4 1 none) me)) number (collects_at room slots id me is left)
+pub collects : (bounds : Bounds) (slots id k : ℕ) (me : Sat) → me.0 ≡ Caller (known_of me.0) → (known_of me.0).standing.number ≡ k → IsLeft (known_of me.0).standing
+    → Allows (Lawful bounds) slots id me (own_word k) (λ x. either (eqb x 4) 1 x) (Collects (step slots (own_word k) 4 1 none) me)
+collects bounds slots id k me is number left =
+    subst (λ (z : ℕ). Allows (Lawful bounds) slots id me (own_word z) (λ x. either (eqb x 4) 1 x) (Collects (step slots (own_word z) 4 1 none) me)) number (collects_at bounds slots id me is left)

@@ -6,6 +6,7 @@ use mathlib.Core.Option.{some, none}
 use native.Mathlib.Decide.{ℕ_discrete}
 use lib.ListN.{get_elem?}
 use Rattle.atomic_table.specs.Table.{State, step, keeps, Allows}
+use Rattle.vector_memory.specs.declared.bounds.Bounds.{Bounds}
 use Rattle.cvl_text.specs.declared.call.Call.{Call}
 use Rattle.call_history.specs.declared.entry.Entry.{Entry}
 use Rattle.call_history.specs.History.{Begins}
@@ -39,33 +40,33 @@ abbrev recorded : Station → List Call → Station
 recorded s own = record { stage = s.stage; seat = s.seat; own = own; job = s.job; start = s.start; held = s.held }
 
 -- a caller that has no more calls in a longer line, while a pass has taken nothing
-caller_stands : (room h : ℕ) (line line' : List Entry) (word : ℕ) (home : Home) (k : ℕ) (s : Station) → Begins line line' → calls_by k line' ≡ calls_by k line
-    → CallerHolds room line (part_of (held_by h (fresh_pass line)) k) word home k s → CallerHolds room line' (part_of (held_by h (fresh_pass line')) k) word home k s
-caller_stands room h line line' word home k s grew same t = record { word_is = t.word_is; request_is = t.request_is; stage_holds = go s.stage t.request_is t.stage_holds }
+caller_stands : (bounds : Bounds) (h : ℕ) (line line' : List Entry) (word : ℕ) (home : Home) (k : ℕ) (s : Station) → Begins line line' → calls_by k line' ≡ calls_by k line
+    → CallerHolds bounds line (part_of (held_by h (fresh_pass line)) k) word home k s → CallerHolds bounds line' (part_of (held_by h (fresh_pass line')) k) word home k s
+caller_stands bounds h line line' word home k s grew same t = record { word_is = t.word_is; request_is = t.request_is; stage_holds = go s.stage t.request_is t.stage_holds }
   where
-    go : (stage : Stage) → None ≡ request_at stage s.job → StageHolds room line (part_of (held_by h (fresh_pass line)) k) home k s stage → StageHolds room line' (part_of (held_by h (fresh_pass line')) k) home k s stage
+    go : (stage : Stage) → None ≡ request_at stage s.job → StageHolds bounds line (part_of (held_by h (fresh_pass line)) k) home k s stage → StageHolds bounds line' (part_of (held_by h (fresh_pass line')) k) home k s stage
     go unmade e t = record { home_is = t.home_is; no_calls = same ∙ t.no_calls; own_is = t.own_is }
     go idle e t = record { home_is = t.home_is; own_is = same ∙ t.own_is }
     go posted e t = record { home_is = t.home_is; lawful = t.lawful; begins = begins_trans s.start line line' t.begins grew; own_is = same ∙ t.own_is }
     go taken e t = absurd (cc e)
-    go done e t = record { outcome = t.outcome; home_is = t.home_is; of_job = t.of_job; fate = fate_grows room line line' k s.own (calls_of s.job) s.start (fate_of t.outcome) grew same t.fate }
+    go done e t = record { outcome = t.outcome; home_is = t.home_is; of_job = t.of_job; fate = fate_grows bounds line line' k s.own (calls_of s.job) s.start (fate_of t.outcome) grew same t.fate }
 
 -- the caller that wrote its own calls, which is idle
-caller_enters : (room h : ℕ) (line line' : List Entry) (word : ℕ) (home : Home) (k : ℕ) (s : Station) → s.stage ≡ idle
-    → CallerHolds room line (part_of (held_by h (fresh_pass line)) k) word home k s → CallerHolds room line' (part_of (held_by h (fresh_pass line')) k) word home k (recorded s (calls_by k line'))
-caller_enters room h line line' word home k s rests t = record {
+caller_enters : (bounds : Bounds) (h : ℕ) (line line' : List Entry) (word : ℕ) (home : Home) (k : ℕ) (s : Station) → s.stage ≡ idle
+    → CallerHolds bounds line (part_of (held_by h (fresh_pass line)) k) word home k s → CallerHolds bounds line' (part_of (held_by h (fresh_pass line')) k) word home k (recorded s (calls_by k line'))
+caller_enters bounds h line line' word home k s rests t = record {
   word_is = t.word_is;
   request_is = t.request_is;
-  stage_holds = let old = subst (StageHolds room line (part_of (held_by h (fresh_pass line)) k) home k s) rests t.stage_holds in
-      subst (StageHolds room line' (part_of (held_by h (fresh_pass line')) k) home k (recorded s (calls_by k line'))) (sym rests) record { home_is = old.home_is; own_is = refl };
+  stage_holds = let old = subst (StageHolds bounds line (part_of (held_by h (fresh_pass line)) k) home k s) rests t.stage_holds in
+      subst (StageHolds bounds line' (part_of (held_by h (fresh_pass line')) k) home k (recorded s (calls_by k line'))) (sym rests) record { home_is = old.home_is; own_is = refl };
 }
 
-module _ (room : ℕ) (s : State Slot View) (r : Lawful room s) (id : ℕ) (c : Known) (there : get_elem? s.views id ≡ some (Caller c)) (line : List Entry) (has : c.pass ≡ Some (fresh_pass line)) (resting : IsIdle c.standing) where
-  abbrev knows : Knows room r.n r.made r.line r.lock r.station id (Caller c)
+module _ (bounds : Bounds) (s : State Slot View) (r : Lawful bounds s) (id : ℕ) (c : Known) (there : get_elem? s.views id ≡ some (Caller c)) (line : List Entry) (has : c.pass ≡ Some (fresh_pass line)) (resting : IsIdle c.standing) where
+  abbrev knows : Knows bounds r.n r.made r.line r.lock r.station id (Caller c)
   knows = r.each_seat id (Caller c) there
 
-  abbrev rule : Lawful room s
-  rule = mine room s r id c there (fresh_pass line) has
+  abbrev rule : Lawful bounds s
+  rule = mine bounds s r id c there (fresh_pass line) has
 
   abbrev k : ℕ
   k = c.standing.number
@@ -86,12 +87,12 @@ module _ (room : ℕ) (s : State Slot View) (r : Lawful room s) (id : ℕ) (c : 
   idle_here = (subst (PhaseHolds k c.standing.seen c.standing.own here) resting knows.phase).stage_is
 
   -- what the caller knows then
-  enter_knows : (line' : List Entry) → Begins r.line line' → Whole line' → Knows room r.n r.made line' (held_by k (fresh_pass line')) (after line') id (Caller (entering_line c line'))
+  enter_knows : (line' : List Entry) → Begins r.line line' → Whole line' → Knows bounds r.n r.made line' (held_by k (fresh_pass line')) (after line') id (Caller (entering_line c line'))
   enter_knows line' grew whole = record {
     number_made = knows.number_made;
     inside = knows.inside;
     seat_is = ap (λ (z : Station). z.seat) (here_is line') ∙ knows.seat_is;
-    room_is = knows.room_is;
+    bounds_is = knows.bounds_is;
     own_is = ap (λ (z : Station). z.own) (sym (here_is line'));
     fronts = record {
       seen_begins = begins_self line';
@@ -120,16 +121,16 @@ module _ (room : ℕ) (s : State Slot View) (r : Lawful room s) (id : ℕ) (c : 
   no_strangers_since line' entered i far = others_since line' entered i (λ e. let inside = knows.inside in omega arith) ∙ r.line_holds.no_strangers i far
 
   -- the line becomes this one, which has more calls of this caller alone
-  enter_keeps : (line' : List Entry) → IsEntered k line line' → Whole line' → Lawful room record { words = set s.words length_word (length line'); homes = s.homes; views = set s.views id (Caller (entering_line c line')) }
+  enter_keeps : (line' : List Entry) → IsEntered k line line' → Whole line' → Lawful bounds record { words = set s.words length_word (length line'); homes = s.homes; views = set s.views id (Caller (entering_line c line')) }
   enter_keeps line' entered whole =
       let p : Pass = fresh_pass line' in
       let grew : Begins r.line line' = subst (λ l. Begins l line') same_line entered.grows in
       let st : Station = recorded here (calls_by k line') in
       let wide = r.wide in
-      let seats = seats_after (Knows room r.n r.made r.line r.lock r.station) (Knows room r.n r.made line' (held_by k p) (after line')) s.views id (Caller (entering_line c line'))
+      let seats = seats_after (Knows bounds r.n r.made r.line r.lock r.station) (Knows bounds r.n r.made line' (held_by k p) (after line')) s.views id (Caller (entering_line c line'))
       (enter_knows line' grew whole)
-      (others_know room r.n r.made r.line line' r.lock (held_by k p) r.station (after line') k id knows.seat_is grew
-      (λ i other. pass_elsewhere k i p other ∙ sym (ap (λ l. pass_of l i) (locked room s r id c there (fresh_pass line) has) ∙ pass_elsewhere k i (fresh_pass line) other))
+      (others_know bounds r.n r.made r.line line' r.lock (held_by k p) r.station (after line') k id knows.seat_is grew
+      (λ i other. pass_elsewhere k i p other ∙ sym (ap (λ l. pass_of l i) (locked bounds s r id c there (fresh_pass line) has) ∙ pass_elsewhere k i (fresh_pass line) other))
       (put_abides r.station k st) (put_rises r.station k st (λ z. z))) r.each_seat in
       record {
         n = r.n;
@@ -152,40 +153,40 @@ module _ (room : ℕ) (s : State Slot View) (r : Lawful room s) (id : ℕ) (c : 
           pass = record { line_is = refl; before_is = λ _. refl; grows = begins_self line'; all_tried = λ e. absurd (cc e); of_callers = λ _ _. refl };
         };
         holder_sits = holder_begins s.views (after line') id (Caller c) (entering_line c line') p there (ap (λ (z : Station). z.seat) (here_is line') ∙ knows.seat_is) refl;
-        sit_apart = seats_apart room r.n r.made line' (held_by k p) (after line') (set s.views id (Caller (entering_line c line'))) seats;
+        sit_apart = seats_apart bounds r.n r.made line' (held_by k p) (after line') (set s.views id (Caller (entering_line c line'))) seats;
         made_sit = made_sit_after s.views r.station (after line') r.made id (Caller c) (Caller (entering_line c line')) there refl (put_seat r.station k st refl) r.made_sit;
-        each_caller = λ i lt. subst (λ (z : ℕ). CallerHolds room line' (part_of (held_by k p) i) z (get_elem? s.homes (i + 1)) i (after line' i))
+        each_caller = λ i lt. subst (λ (z : ℕ). CallerHolds bounds line' (part_of (held_by k p) i) z (get_elem? s.homes (i + 1)) i (after line' i))
             (sym (get_or-set_other s.words length_word (own_word i) (length line') 0 (λ e. omega arith))) (each line' grew (others_since line' entered) i lt);
         each_seat = seats;
       }
     where
-      old : (i : ℕ) → i < r.n → CallerHolds room r.line (part_of (held_by k (fresh_pass r.line)) i) (get_or s.words (own_word i) 0) (get_elem? s.homes (i + 1)) i (r.station i)
-      old i lt = subst (λ l. CallerHolds room r.line (part_of (held_by k (fresh_pass l)) i) (get_or s.words (own_word i) 0) (get_elem? s.homes (i + 1)) i (r.station i)) same_line (rule.each_caller i lt)
+      old : (i : ℕ) → i < r.n → CallerHolds bounds r.line (part_of (held_by k (fresh_pass r.line)) i) (get_or s.words (own_word i) 0) (get_elem? s.homes (i + 1)) i (r.station i)
+      old i lt = subst (λ l. CallerHolds bounds r.line (part_of (held_by k (fresh_pass l)) i) (get_or s.words (own_word i) 0) (get_elem? s.homes (i + 1)) i (r.station i)) same_line (rule.each_caller i lt)
 
       each : (line' : List Entry) → Begins r.line line' → ((i : ℕ) → i ≢ k → calls_by i line' ≡ calls_by i r.line) → (i : ℕ) → i < r.n
-          → CallerHolds room line' (part_of (held_by k (fresh_pass line')) i) (get_or s.words (own_word i) 0) (get_elem? s.homes (i + 1)) i (after line' i)
+          → CallerHolds bounds line' (part_of (held_by k (fresh_pass line')) i) (get_or s.words (own_word i) 0) (get_elem? s.homes (i + 1)) i (after line' i)
       each line' grew others i lt = dite (ℕ_discrete i k)
-          (λ same. subst (λ (z : ℕ). CallerHolds room line' (part_of (held_by k (fresh_pass line')) z) (get_or s.words (own_word z) 0) (get_elem? s.homes (z + 1)) z (after line' z)) (sym same)
-          (subst (CallerHolds room line' (part_of (held_by k (fresh_pass line')) k) (get_or s.words (own_word k) 0) (get_elem? s.homes (k + 1)) k) (sym (here_is line'))
-          (caller_enters room k r.line line' (get_or s.words (own_word k) 0) (get_elem? s.homes (k + 1)) k here idle_here (old k knows.inside))))
-          (λ other. subst (CallerHolds room line' (part_of (held_by k (fresh_pass line')) i) (get_or s.words (own_word i) 0) (get_elem? s.homes (i + 1)) i) (sym (put_else r.station k (recorded here (calls_by k line')) i other))
-          (caller_stands room k r.line line' (get_or s.words (own_word i) 0) (get_elem? s.homes (i + 1)) i (r.station i) grew (others i other) (old i lt)))
+          (λ same. subst (λ (z : ℕ). CallerHolds bounds line' (part_of (held_by k (fresh_pass line')) z) (get_or s.words (own_word z) 0) (get_elem? s.homes (z + 1)) z (after line' z)) (sym same)
+          (subst (CallerHolds bounds line' (part_of (held_by k (fresh_pass line')) k) (get_or s.words (own_word k) 0) (get_elem? s.homes (k + 1)) k) (sym (here_is line'))
+          (caller_enters bounds k r.line line' (get_or s.words (own_word k) 0) (get_elem? s.homes (k + 1)) k here idle_here (old k knows.inside))))
+          (λ other. subst (CallerHolds bounds line' (part_of (held_by k (fresh_pass line')) i) (get_or s.words (own_word i) 0) (get_elem? s.homes (i + 1)) i) (sym (put_else r.station k (recorded here (calls_by k line')) i other))
+          (caller_stands bounds k r.line line' (get_or s.words (own_word i) 0) (get_elem? s.homes (i + 1)) i (r.station i) grew (others i other) (old i lt)))
 
-pub enters_line : (room slots id : ℕ) (me : Sat) (line : List Entry) → me.0 ≡ Caller (known_of me.0) → IsIdle (known_of me.0).standing
+pub enters_line : (bounds : Bounds) (slots id : ℕ) (me : Sat) (line : List Entry) → me.0 ≡ Caller (known_of me.0) → IsIdle (known_of me.0).standing
     → (known_of me.0).pass ≡ Some (fresh_pass (pass_in (known_of me.0)).line) → IsEntered (known_of me.0).standing.number (pass_in (known_of me.0)).line line → Whole line
-    → Allows (Lawful room) slots id me length_word (λ _. length line) (λ _. Enters line (step slots length_word (length line) 0 none) me (length line))
-enters_line room slots id me line is resting has entered whole s r deep at small =
+    → Allows (Lawful bounds) slots id me length_word (λ _. length line) (λ _. Enters line (step slots length_word (length line) 0 none) me (length line))
+enters_line bounds slots id me line is resting has entered whole s r deep at small =
     let c : Known = known_of me.0 in
     let there : get_elem? s.views id ≡ some (Caller c) = at ∙ ap (λ (v : View). some v) is in
     let sized : slots ≡ r.n + 1 = sym deep ∙ r.deep in
-    let line_is = same_line room s r id c there (pass_in c).line has resting in (
+    let line_is = same_line bounds s r id c there (pass_in c).line has resting in (
       Caller (entering_line c line),
       keeps,
       tt,
-      enter_keeps room s r id c there (pass_in c).line has resting line entered whole,
+      enter_keeps bounds s r id c there (pass_in c).line has resting line entered whole,
       (
         refl,
-        front_of slots sized (no_strangers_since room s r id c there (pass_in c).line has resting line entered)
-            (enter_knows room s r id c there (pass_in c).line has resting line (subst (λ l. Begins l line) line_is entered.grows) whole),
+        front_of slots sized (no_strangers_since bounds s r id c there (pass_in c).line has resting line entered)
+            (enter_knows bounds s r id c there (pass_in c).line has resting line (subst (λ l. Begins l line) line_is entered.grows) whole),
       ),
     )

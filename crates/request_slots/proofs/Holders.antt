@@ -9,6 +9,7 @@ use native.Mathlib.Decide.{ℕ_discrete}
 use lib.ListN.{get_elem?}
 use Rattle.atomic_table.specs.Table.{State}
 use Rattle.atomic_table.proofs.Lists.{set_here, set_else, at_longer}
+use Rattle.vector_memory.specs.declared.bounds.Bounds.{Bounds}
 use Rattle.call_history.specs.declared.entry.Entry.{Entry}
 use Rattle.request_slots.specs.declared.desk.Slot.{Slot}
 use Rattle.request_slots.specs.declared.known.Pass.{Pass}
@@ -84,20 +85,20 @@ made_sit_after views station station' made me v w there same seats sit k lt =
     (λ other. (old.0, ap (get_elem? (set views me w)) (seats k) ∙ (set_else views me (station k).seat w other ∙ old.1), old.2))
 
 -- a view of a caller stands where the caller's station says
-seat_of_caller : (room n made : ℕ) (line : List Entry) (lock : Lock) (station : ℕ → Station) (j k : ℕ) (v : View) → Knows room n made line lock station j v → sitter_of v ≡ Some k → (station k).seat ≡ j
-seat_of_caller room n made line lock station j k (Maker q m) h e = absurd (cc e)
-seat_of_caller room n made line lock station j k (Newcomer q i) h e = let same : i ≡ k = cc e in ap (λ (z : ℕ). (station z).seat) (sym same) ∙ h.seat_is
-seat_of_caller room n made line lock station j k (Caller c) h e = let same : c.standing.number ≡ k = cc e in ap (λ (z : ℕ). (station z).seat) (sym same) ∙ h.seat_is
-seat_of_caller room n made line lock station j k (Bare seen) h e = absurd (cc e)
-seat_of_caller room n made line lock station j k Spent h e = absurd (cc e)
+seat_of_caller : (bounds : Bounds) (n made : ℕ) (line : List Entry) (lock : Lock) (station : ℕ → Station) (j k : ℕ) (v : View) → Knows bounds n made line lock station j v → sitter_of v ≡ Some k → (station k).seat ≡ j
+seat_of_caller bounds n made line lock station j k (Maker q m) h e = absurd (cc e)
+seat_of_caller bounds n made line lock station j k (Newcomer q i) h e = let same : i ≡ k = cc e in ap (λ (z : ℕ). (station z).seat) (sym same) ∙ h.seat_is
+seat_of_caller bounds n made line lock station j k (Caller c) h e = let same : c.standing.number ≡ k = cc e in ap (λ (z : ℕ). (station z).seat) (sym same) ∙ h.seat_is
+seat_of_caller bounds n made line lock station j k (Bare seen) h e = absurd (cc e)
+seat_of_caller bounds n made line lock station j k Spent h e = absurd (cc e)
 
-pub seats_apart : (room n made : ℕ) (line : List Entry) (lock : Lock) (station : ℕ → Station) (views : List View) → ((j : ℕ) (v : View) → get_elem? views j ≡ some v → Knows room n made line lock station j v) → SitApart views
-seats_apart room n made line lock station views knows i j k v w at there is same =
-    sym (seat_of_caller room n made line lock station i k v (knows i v at) is) ∙ seat_of_caller room n made line lock station j k w (knows j w there) same
+pub seats_apart : (bounds : Bounds) (n made : ℕ) (line : List Entry) (lock : Lock) (station : ℕ → Station) (views : List View) → ((j : ℕ) (v : View) → get_elem? views j ≡ some v → Knows bounds n made line lock station j v) → SitApart views
+seats_apart bounds n made line lock station views knows i j k v w at there is same =
+    sym (seat_of_caller bounds n made line lock station i k v (knows i v at) is) ∙ seat_of_caller bounds n made line lock station j k w (knows j w there) same
 
 -- the caller that the lock names has had the desk
-pub holder_has_held : (room : ℕ) (s : State Slot View) (r : Lawful room s) (h : ℕ) (p : Pass) → r.lock ≡ held_by h p → (r.station h).held ≡ true
-holder_has_held room s r h p is =
+pub holder_has_held : (bounds : Bounds) (s : State Slot View) (r : Lawful bounds s) (h : ℕ) (p : Pass) → r.lock ≡ held_by h p → (r.station h).held ≡ true
+holder_has_held bounds s r h p is =
     let sits = subst (HolderSits s.views r.station) is r.holder_sits in
     let knows = r.each_seat (r.station h).seat (Caller sits.0) sits.1 in
     ap (λ (z : ℕ). (r.station z).held) (sym sits.2) ∙ (sym knows.notes.held_is ∙ knows.notes.holder_held p sits.3)

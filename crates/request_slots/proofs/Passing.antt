@@ -6,6 +6,7 @@ use mathlib.Core.Option.{some}
 use mathlib.Core.Option as maybe
 use lib.ListN.{get_elem?}
 use Rattle.atomic_table.specs.Table.{State}
+use Rattle.vector_memory.specs.declared.bounds.Bounds.{Bounds}
 use Rattle.call_history.specs.declared.entry.Entry.{Entry}
 use Rattle.call_history.specs.History.{Begins}
 use Rattle.call_history.proofs.Beginnings.{begins_self}
@@ -29,15 +30,15 @@ use Rattle.request_slots.proofs.Carrying.{relocked, caller_step, moved}
 abbrev pub staged : Station → Stage → Station
 staged s stage = record { stage = stage; seat = s.seat; own = s.own; job = s.job; start = s.start; held = s.held }
 
-module _ (room : ℕ) (s : State Slot View) (r : Lawful room s) (id : ℕ) (c : Known) (there : get_elem? s.views id ≡ some (Caller c)) (p : Pass) (has : c.pass ≡ Some p) where
-  abbrev knows : Knows room r.n r.made r.line r.lock r.station id (Caller c)
+module _ (bounds : Bounds) (s : State Slot View) (r : Lawful bounds s) (id : ℕ) (c : Known) (there : get_elem? s.views id ≡ some (Caller c)) (p : Pass) (has : c.pass ≡ Some p) where
+  abbrev knows : Knows bounds r.n r.made r.line r.lock r.station id (Caller c)
   knows = r.each_seat id (Caller c) there
 
   pub locked : r.lock ≡ held_by c.standing.number p
   locked = lock_is r.lock c.standing.number p (sym has ∙ knows.pass_is)
 
-  abbrev pub mine : Lawful room s
-  mine = relocked room s r (held_by c.standing.number p) locked
+  abbrev pub mine : Lawful bounds s
+  mine = relocked bounds s r (held_by c.standing.number p) locked
 
   pub holds_pass : PassHolds r.n r.line p
   holds_pass = mine.lock_holds.pass
@@ -45,12 +46,12 @@ module _ (room : ℕ) (s : State Slot View) (r : Lawful room s) (id : ℕ) (c : 
   -- the view of the caller that has the desk, after a step of its pass
   pub own_knows : (line' : List Entry) (p' : Pass) (station' : ℕ → Station) (passes : List ℕ) → Begins r.line line' → ((m : ℕ) → Abides (r.station m) (station' m))
       → (is_in p'.tried c.standing.number ≡ true → (station' c.standing.number).stage ≢ posted)
-      → Knows room r.n r.made line' (held_by c.standing.number p') station' id (Caller (record c { standing = record c.standing { passes = passes }; pass = Some p' }))
+      → Knows bounds r.n r.made line' (held_by c.standing.number p') station' id (Caller (record c { standing = record c.standing { passes = passes }; pass = Some p' }))
   own_knows line' p' station' passes grew abide tried = let a = abide c.standing.number in record {
     number_made = knows.number_made;
     inside = knows.inside;
     seat_is = a.seat ∙ knows.seat_is;
-    room_is = knows.room_is;
+    bounds_is = knows.bounds_is;
     own_is = knows.own_is ∙ sym a.own;
     fronts = fronts_grow r.line line' c.standing.seen c.told (left_start c.standing.phase) grew knows.fronts;
     pass_is = sym (pass_there c.standing.number p');
@@ -67,21 +68,21 @@ module _ (room : ℕ) (s : State Slot View) (r : Lawful room s) (id : ℕ) (c : 
   }
 
   pub others_stay : (line' : List Entry) (p' : Pass) (station' : ℕ → Station) → Begins r.line line' → ((m : ℕ) → Abides (r.station m) (station' m))
-      → (j : ℕ) → j ≢ id → (v : View) → Knows room r.n r.made r.line r.lock r.station j v → Knows room r.n r.made line' (held_by c.standing.number p') station' j v
-  others_stay line' p' station' grew abide = others_know room r.n r.made r.line line' r.lock (held_by c.standing.number p') r.station station' c.standing.number id knows.seat_is grew
+      → (j : ℕ) → j ≢ id → (v : View) → Knows bounds r.n r.made r.line r.lock r.station j v → Knows bounds r.n r.made line' (held_by c.standing.number p') station' j v
+  others_stay line' p' station' grew abide = others_know bounds r.n r.made r.line line' r.lock (held_by c.standing.number p') r.station station' c.standing.number id knows.seat_is grew
       (λ i other. pass_elsewhere c.standing.number i p' other ∙ sym (ap (λ l. pass_of l i) locked ∙ pass_elsewhere c.standing.number i p other)) (λ i _. abide i) (λ m e. (abide m).held ∙ e)
 
   -- a step on the word and the slot of caller i, by the one that has the desk
   pub serve_step : (i x : ℕ) (y : maybe.Option Slot) (st : Station) (p' : Pass) → i < r.n → i < r.made → Abides (r.station i) st
-      → ((j : ℕ) → j ≢ i → part_of (held_by c.standing.number p') j ≡ part_of (held_by c.standing.number p) j) → CallerHolds room r.line (part_of (held_by c.standing.number p') i) x (some y) i st → PassHolds r.n r.line p'
+      → ((j : ℕ) → j ≢ i → part_of (held_by c.standing.number p') j ≡ part_of (held_by c.standing.number p) j) → CallerHolds bounds r.line (part_of (held_by c.standing.number p') i) x (some y) i st → PassHolds r.n r.line p'
       → (is_in p'.tried c.standing.number ≡ true → (put r.station i st c.standing.number).stage ≢ posted)
-      → Lawful room (moved s i x y id (Caller (passing c p')))
+      → Lawful bounds (moved s i x y id (Caller (passing c p')))
   serve_step i x y st p' near made here parts caller pass tried =
       let abide = put_all_abide r.station i st here in
-      caller_step room s mine i x y st (held_by c.standing.number p') id (Caller c) (Caller (passing c p')) near made there refl here.seat parts caller
+      caller_step bounds s mine i x y st (held_by c.standing.number p') id (Caller c) (Caller (passing c p')) near made there refl here.seat parts caller
       record { word_is = mine.lock_holds.word_is; inside = mine.lock_holds.inside; home_is = mine.lock_holds.home_is; pass = pass }
       (own_knows r.line p' (put r.station i st) c.standing.passes (begins_self r.line) abide tried)
-      (subst (λ l. (j : ℕ) → j ≢ id → (v : View) → Knows room r.n r.made r.line l r.station j v → Knows room r.n r.made r.line (held_by c.standing.number p') (put r.station i st) j v) locked
+      (subst (λ l. (j : ℕ) → j ≢ id → (v : View) → Knows bounds r.n r.made r.line l r.station j v → Knows bounds r.n r.made r.line (held_by c.standing.number p') (put r.station i st) j v) locked
       (others_stay r.line p' (put r.station i st) (begins_self r.line) abide))
       (holder_begins s.views (put r.station i st) id (Caller c) (passing c p') p' there ((abide c.standing.number).seat ∙ knows.seat_is) refl)
 

@@ -6,6 +6,7 @@ use Rattle.std.proofs.lemmas.List.Elements.{All-append}
 use mathlib.Core.List.{map-append}
 use Rattle.atomic_table.specs.Seated.{TableId}
 use Rattle.atomic_table.specs.declared.shared.Seat as token
+use Rattle.vector_memory.specs.declared.bounds.Bounds.{Bounds}
 use Rattle.call_history.specs.Callers.{caller_limit}
 use Rattle.call_history.specs.Fits.{Fate, StandsAt, CameBack}
 use Rattle.request_slots.specs.Stages.{length_word, own_word}
@@ -56,15 +57,15 @@ pub collected_keeps : (c : Standing) (fate : Fate) (d : Standing) → Collected 
 collected_keeps c (StandsAt place replies) d h = let e = h.5 in (ap (λ (z : Standing). z.phase) e, ap (λ (z : Standing). z.number) e, ap (λ (z : Standing). z.machine) e)
 collected_keeps c (CameBack back) d h = let e = h.1 in (ap (λ (z : Standing). z.phase) e, ap (λ (z : Standing). z.number) e, ap (λ (z : Standing). z.machine) e)
 
-all_new : (m : Machine) (room n : ℕ) → All (IsNewSeatAt m) (map untold (newcomers m room n))
-all_new m room zero = λ k d lt. absurd (omega arith)
-all_new m room (suc n) = subst (All (IsNewSeatAt m)) (sym (map-append untold (newcomers m room n) (newcomer m room n ∷ [])))
-    (All-append (IsNewSeatAt m) (map untold (newcomers m room n)) (untold (newcomer m room n) ∷ []) (all_new m room n) last)
+all_new : (m : Machine) (bounds : Bounds) (n : ℕ) → All (IsNewSeatAt m) (map untold (newcomers m bounds n))
+all_new m bounds zero = λ k d lt. absurd (omega arith)
+all_new m bounds (suc n) = subst (All (IsNewSeatAt m)) (sym (map-append untold (newcomers m bounds n) (newcomer m bounds n ∷ [])))
+    (All-append (IsNewSeatAt m) (map untold (newcomers m bounds n)) (untold (newcomer m bounds n) ∷ []) (all_new m bounds n) last)
   where
-    last : All (IsNewSeatAt m) (untold (newcomer m room n) ∷ [])
+    last : All (IsNewSeatAt m) (untold (newcomer m bounds n) ∷ [])
     last zero d lt = (refl, refl, refl, λ _. (refl, refl))
     last (suc k) d lt = absurd (omega arith)
 
 -- the seats of a new table are of new callers
-pub all_new_at : (m : Machine) (room n : ℕ) (seats : List Known) → seats ≡ map untold (newcomers m room n) → All (IsNewSeatAt m) seats
-all_new_at m room n seats e = subst (All (IsNewSeatAt m)) (sym e) (all_new m room n)
+pub all_new_at : (m : Machine) (bounds : Bounds) (n : ℕ) (seats : List Known) → seats ≡ map untold (newcomers m bounds n) → All (IsNewSeatAt m) seats
+all_new_at m bounds n seats e = subst (All (IsNewSeatAt m)) (sym e) (all_new m bounds n)

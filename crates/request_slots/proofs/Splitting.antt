@@ -4,6 +4,7 @@
 use Rattle.std.proofs.Common.{◌≡◌, ◌⊎◌, ⊎_elim, inl, inr, ℕ, ◌+◌, ◌<◌, ◌≤◌, List, [], ◌∷◌, ◌++◌, length, take, sym, ap, ◌∙◌, subst, arith, append_assoc, length-append}
 use Rattle.std.proofs.lemmas.List.{append_cancel_left, append_cancel_right}
 use Rattle.std.proofs.lemmas.Bool.{cases_lt}
+use Rattle.vector_memory.specs.declared.bounds.Bounds.{Bounds}
 use Rattle.cvl_text.specs.declared.call.Call.{Call}
 use Rattle.cvl_text.specs.Answers.{Answer}
 use Rattle.call_history.specs.declared.entry.Entry.{Entry}
@@ -26,9 +27,9 @@ pub record Stands (k : ℕ) (own calls : List Call) (line : List Entry) : Type 0
 abbrev pub NoneOrStands : ℕ → List Call → List Call → List Entry → Type 0
 NoneOrStands k own calls line = (calls_by k line ≡ own) ⊎ Stands k own calls line
 
-pub stands_answered : (room : ℕ) (start line : List Entry) (k : ℕ) (own calls : List Call) (m : ℕ) (replies : List Answer) → Answers room start own k calls (take m line) replies → calls_by k line ≡ own ++ calls
+pub stands_answered : (bounds : Bounds) (start line : List Entry) (k : ℕ) (own calls : List Call) (m : ℕ) (replies : List Answer) → Answers bounds start own k calls (take m line) replies → calls_by k line ≡ own ++ calls
     → Stands k own calls line
-stands_answered room start line k own calls m replies a all =
+stands_answered bounds start line k own calls m replies a all =
     let before : List Entry = a.before in
     let both : calls_by k before ++ calls ≡ own ++ calls = ap (λ l. calls_by k before ++ l) (sym (calls_by-block k before calls)) ∙ (sym (calls_by-append k before (block_entries before k calls))
     ∙ (ap (calls_by k) (sym a.ends) ∙ a.owns)) in

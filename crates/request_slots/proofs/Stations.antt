@@ -4,6 +4,7 @@
 use Rattle.std.proofs.Common.{◌≡◌, ◌≢◌, ℕ, Bool, true, List, Option, refl, sym, ap, ◌∙◌, subst}
 use mathlib.Core.Logic.{dite}
 use native.Mathlib.Decide.{ℕ_discrete}
+use Rattle.vector_memory.specs.declared.bounds.Bounds.{Bounds}
 use Rattle.cvl_text.specs.declared.call.Call.{Call}
 use Rattle.call_history.specs.declared.entry.Entry.{Entry}
 use Rattle.call_history.specs.History.{Begins}
@@ -117,14 +118,14 @@ notes_rise n k held had had' met pass has_held has_held' same rises h = record {
 }
 
 -- the seat of a caller that a step does not touch, along a line that may have grown
-pub caller_abides : (room n made : ℕ) (line line' : List Entry) (pass pass' : Option Pass) (s s' : Station) (has_held has_held' : ℕ → Bool) (seat : ℕ) (c : Known)
+pub caller_abides : (bounds : Bounds) (n made : ℕ) (line line' : List Entry) (pass pass' : Option Pass) (s s' : Station) (has_held has_held' : ℕ → Bool) (seat : ℕ) (c : Known)
     → Begins line line' → pass' ≡ pass → Abides s s' → ((m : ℕ) → has_held m ≡ true → has_held' m ≡ true)
-    → CallerKnows room n made line pass s has_held seat c → CallerKnows room n made line' pass' s' has_held' seat c
-caller_abides room n made line line' pass pass' s s' has_held has_held' seat c grows same a rises k = record {
+    → CallerKnows bounds n made line pass s has_held seat c → CallerKnows bounds n made line' pass' s' has_held' seat c
+caller_abides bounds n made line line' pass pass' s s' has_held has_held' seat c grows same a rises k = record {
   number_made = k.number_made;
   inside = k.inside;
   seat_is = a.seat ∙ k.seat_is;
-  room_is = k.room_is;
+  bounds_is = k.bounds_is;
   own_is = k.own_is ∙ sym a.own;
   fronts = fronts_grow line line' c.standing.seen c.told (left_start c.standing.phase) grows k.fronts;
   pass_is = k.pass_is ∙ sym same;
@@ -134,17 +135,17 @@ caller_abides room n made line line' pass pass' s s' has_held has_held' seat c g
 }
 
 -- A step by the caller k, whose seat is `me`: what each other seat knows stays
-pub others_know : (room n made : ℕ) (line line' : List Entry) (lock lock' : Lock) (station station' : ℕ → Station) (k me : ℕ)
+pub others_know : (bounds : Bounds) (n made : ℕ) (line line' : List Entry) (lock lock' : Lock) (station station' : ℕ → Station) (k me : ℕ)
     → (station k).seat ≡ me → Begins line line' → ((i : ℕ) → i ≢ k → pass_of lock' i ≡ pass_of lock i) → ((i : ℕ) → i ≢ k → Abides (station i) (station' i))
     → ((m : ℕ) → (station m).held ≡ true → (station' m).held ≡ true)
-    → (j : ℕ) → j ≢ me → (v : View) → Knows room n made line lock station j v → Knows room n made line' lock' station' j v
-others_know room n made line line' lock lock' station station' k me mine grows passes abides rises j other (Maker q m) h = h
-others_know room n made line line' lock lock' station station' k me mine grows passes abides rises j other (Newcomer q i) h =
+    → (j : ℕ) → j ≢ me → (v : View) → Knows bounds n made line lock station j v → Knows bounds n made line' lock' station' j v
+others_know bounds n made line line' lock lock' station station' k me mine grows passes abides rises j other (Maker q m) h = h
+others_know bounds n made line line' lock lock' station station' k me mine grows passes abides rises j other (Newcomer q i) h =
     let apart : i ≢ k = λ e. other (sym h.seat_is ∙ (ap (λ (n : ℕ). (station n).seat) e ∙ mine)) in let a = abides i apart in
-    record { number_made = h.number_made; seat_is = a.seat ∙ h.seat_is; room_is = h.room_is; stage_is = a.unmade_stays h.stage_is; not_held = a.held ∙ h.not_held }
-others_know room n made line line' lock lock' station station' k me mine grows passes abides rises j other (Caller c) h =
+    record { number_made = h.number_made; seat_is = a.seat ∙ h.seat_is; bounds_is = h.bounds_is; stage_is = a.unmade_stays h.stage_is; not_held = a.held ∙ h.not_held }
+others_know bounds n made line line' lock lock' station station' k me mine grows passes abides rises j other (Caller c) h =
     let apart : c.standing.number ≢ k = λ e. other (sym h.seat_is ∙ (ap (λ (n : ℕ). (station n).seat) e ∙ mine)) in
-    caller_abides room n made line line' (pass_of lock c.standing.number) (pass_of lock' c.standing.number) (station c.standing.number) (station' c.standing.number) (λ m. (station m).held) (λ m. (station' m).held) j c
+    caller_abides bounds n made line line' (pass_of lock c.standing.number) (pass_of lock' c.standing.number) (station c.standing.number) (station' c.standing.number) (λ m. (station m).held) (λ m. (station' m).held) j c
     grows (passes c.standing.number apart) (abides c.standing.number apart) rises h
-others_know room n made line line' lock lock' station station' k me mine grows passes abides rises j other (Bare seen) h = (begins_trans seen line line' h.0 grows, h.1)
-others_know room n made line line' lock lock' station station' k me mine grows passes abides rises j other Spent h = tt
+others_know bounds n made line line' lock lock' station station' k me mine grows passes abides rises j other (Bare seen) h = (begins_trans seen line line' h.0 grows, h.1)
+others_know bounds n made line line' lock lock' station station' k me mine grows passes abides rises j other Spent h = tt

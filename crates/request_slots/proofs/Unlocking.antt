@@ -5,6 +5,7 @@ use Rattle.std.proofs.Common.{◌≡◌, ◌≢◌, ◌⊎◌, ℕ, ◌+◌, ◌
 use mathlib.Core.Option.{some, none}
 use lib.ListN.{get_elem?}
 use Rattle.atomic_table.specs.Table.{State, step, gives, Allows, rest}
+use Rattle.vector_memory.specs.declared.bounds.Bounds.{Bounds}
 use Rattle.cvl_text.specs.declared.call.Call.{Call}
 use Rattle.call_history.specs.declared.request.Job.{Job}
 use Rattle.call_history.specs.declared.entry.Entry.{Entry}
@@ -57,8 +58,8 @@ both_true false b e = absurd (cc e)
 not_taken : (job : Job) (stage : Stage) → None ≡ request_at stage job → stage ≢ taken
 not_taken job stage e is = let t : None ≡ Some job = e ∙ ap (λ (z : Stage). request_at z job) is in absurd (cc t)
 
-module _ (room : ℕ) (s : State Slot View) (r : Lawful room s) (id : ℕ) (c : Known) (there : get_elem? s.views id ≡ some (Caller c)) where
-  abbrev knows : Knows room r.n r.made r.line r.lock r.station id (Caller c)
+module _ (bounds : Bounds) (s : State Slot View) (r : Lawful bounds s) (id : ℕ) (c : Known) (there : get_elem? s.views id ≡ some (Caller c)) where
+  abbrev knows : Knows bounds r.n r.made r.line r.lock r.station id (Caller c)
   knows = r.each_seat id (Caller c) there
 
   abbrev here : Station
@@ -68,21 +69,21 @@ module _ (room : ℕ) (s : State Slot View) (r : Lawful room s) (id : ℕ) (c : 
   inside = knows.inside
 
   -- what the caller knows once it has given the desk back
-  unlock_knows : (p : Pass) → c.pass ≡ Some p → p.taken ≡ [] → Knows room r.n r.made r.line free r.station id (Caller (unlocking c p))
+  unlock_knows : (p : Pass) → c.pass ≡ Some p → p.taken ≡ [] → Knows bounds r.n r.made r.line free r.station id (Caller (unlocking c p))
   unlock_knows p has all_told =
       let locked = lock_is r.lock c.standing.number p (sym has ∙ knows.pass_is) in
-      let r' = relocked room s r (held_by c.standing.number p) locked in
+      let r' = relocked bounds s r (held_by c.standing.number p) locked in
       let line_is : p.line ≡ r.line = r'.lock_holds.pass.line_is in
       let mine = r'.each_caller c.standing.number inside in
       record {
         number_made = knows.number_made;
         inside = knows.inside;
         seat_is = knows.seat_is;
-        room_is = knows.room_is;
+        bounds_is = knows.bounds_is;
         own_is = knows.own_is;
         fronts = record { seen_begins = subst (λ l. Begins l r.line) (sym line_is) (begins_self r.line); told_begins = knows.fronts.told_begins; start_begins = knows.fronts.start_begins; seen_whole = subst Whole (sym line_is) r.line_holds.whole; told_whole = knows.fronts.told_whole };
         pass_is = refl;
-        phase = subst (λ l. PhaseHolds c.standing.number l c.standing.own here c.standing.phase) (sym line_is) (phase_along room s r id c knows);
+        phase = subst (λ l. PhaseHolds c.standing.number l c.standing.own here c.standing.phase) (sym line_is) (phase_along bounds s r id c knows);
         settled = record {
           done = λ e. ⊎_elim knows.settled.done
               (λ (t : (is_in p.tried c.standing.number && left_in c.standing.phase) ≡ true). let both = both_true (is_in p.tried c.standing.number) (left_in c.standing.phase) t in
@@ -95,26 +96,26 @@ module _ (room : ℕ) (s : State Slot View) (r : Lawful room s) (id : ℕ) (c : 
       }
 
   -- the desk goes home
-  unlock_keeps : (p : Pass) (d : Box Desk) → c.pass ≡ Some p → p.taken ≡ [] → DeskRests room r.n p.line d.value → Lawful room (handed s 0 (some (Kept d)) id (Caller (unlocking c p)))
+  unlock_keeps : (p : Pass) (d : Box Desk) → c.pass ≡ Some p → p.taken ≡ [] → DeskRests bounds r.n p.line d.value → Lawful bounds (handed s 0 (some (Kept d)) id (Caller (unlocking c p)))
   unlock_keeps p d has all_told rests =
       let locked = lock_is r.lock c.standing.number p (sym has ∙ knows.pass_is) in
-      let r' = relocked room s r (held_by c.standing.number p) locked in
+      let r' = relocked bounds s r (held_by c.standing.number p) locked in
       let line_is : p.line ≡ r.line = r'.lock_holds.pass.line_is in
       let nothing : (k : ℕ) → request_by k p.taken ≡ None = λ k. ap (request_by k) all_told in
-      lock_step room s r 0 (some (Kept d)) r.station free id (Caller c) (Caller (unlocking c p)) there refl (λ _. refl) r.not_made
-      record { word_is = refl; desk = d; home_is = refl; rests = subst (λ l. DeskRests room r.n l d.value) line_is rests }
-      (λ k lt. part_free room r.line (part_of (held_by c.standing.number p) k) (part_of free k) (get_or s.words (own_word k) 0) (get_elem? s.homes (k + 1)) k (r.station k) (r.station k).held (nothing k) refl (r'.each_caller k lt))
+      lock_step bounds s r 0 (some (Kept d)) r.station free id (Caller c) (Caller (unlocking c p)) there refl (λ _. refl) r.not_made
+      record { word_is = refl; desk = d; home_is = refl; rests = subst (λ l. DeskRests bounds r.n l d.value) line_is rests }
+      (λ k lt. part_free bounds r.line (part_of (held_by c.standing.number p) k) (part_of free k) (get_or s.words (own_word k) 0) (get_elem? s.homes (k + 1)) k (r.station k) (r.station k).held (nothing k) refl (r'.each_caller k lt))
       (unlock_knows p has all_told)
-      (others_know room r.n r.made r.line r.line r.lock free r.station r.station c.standing.number id knows.seat_is (begins_self r.line)
+      (others_know bounds r.n r.made r.line r.line r.lock free r.station r.station c.standing.number id knows.seat_is (begins_self r.line)
       (λ i other. sym (ap (λ l. pass_of l i) locked ∙ pass_elsewhere c.standing.number i p other)) (λ i _. abides_self (r.station i)) (λ m e. e)) tt
 
-pub unlocks : (room slots id : ℕ) (old me : Sat) (d : Box Desk) → me ≡ (old.0, (0, Kept d) ∷ rest old.1) → old.0 ≡ Caller (known_of old.0) → (known_of old.0).pass ≡ Some (pass_in (known_of old.0))
-    → (pass_in (known_of old.0)).taken ≡ [] → d.value.book.history ≡ (pass_in (known_of old.0)).line → d.value.book.room ≡ (known_of old.0).standing.room → IsSpare slots d.value
-    → Allows (Lawful room) slots id me 0 (λ _. 0) (λ _. Unlocks (step slots 0 0 0 none) me 0)
-unlocks room slots id old me d put is has all_told history_is room_is spare =
-    subst (λ (m : Sat). Allows (Lawful room) slots id m 0 (λ _. 0) (λ _. Unlocks (step slots 0 0 0 none) m 0)) (sym put) go
+pub unlocks : (bounds : Bounds) (slots id : ℕ) (old me : Sat) (d : Box Desk) → me ≡ (old.0, (0, Kept d) ∷ rest old.1) → old.0 ≡ Caller (known_of old.0) → (known_of old.0).pass ≡ Some (pass_in (known_of old.0))
+    → (pass_in (known_of old.0)).taken ≡ [] → d.value.book.history ≡ (pass_in (known_of old.0)).line → d.value.book.bounds ≡ (known_of old.0).standing.bounds → IsSpare slots d.value
+    → Allows (Lawful bounds) slots id me 0 (λ _. 0) (λ _. Unlocks (step slots 0 0 0 none) me 0)
+unlocks bounds slots id old me d put is has all_told history_is bounds_is spare =
+    subst (λ (m : Sat). Allows (Lawful bounds) slots id m 0 (λ _. 0) (λ _. Unlocks (step slots 0 0 0 none) m 0)) (sym put) go
   where
-    go : Allows (Lawful room) slots id (old.0, (0, Kept d) ∷ rest old.1) 0 (λ _. 0) (λ _. Unlocks (step slots 0 0 0 none) (old.0, (0, Kept d) ∷ rest old.1) 0)
+    go : Allows (Lawful bounds) slots id (old.0, (0, Kept d) ∷ rest old.1) 0 (λ _. 0) (λ _. Unlocks (step slots 0 0 0 none) (old.0, (0, Kept d) ∷ rest old.1) 0)
     go s r deep at small =
         let c : Known = known_of old.0 in
         let there : get_elem? s.views id ≡ some (Caller c) = at ∙ ap (λ (v : View). some v) is in
@@ -124,13 +125,13 @@ unlocks room slots id old me d put is has all_told history_is room_is spare =
           Caller (unlocking c (pass_in c)),
           gives,
           tt,
-          unlock_keeps room s r id c there (pass_in c) d has all_told record {
-            room_is = room_is ∙ knows.room_is;
+          unlock_keeps bounds s r id c there (pass_in c) d has all_told record {
+            bounds_is = bounds_is ∙ knows.bounds_is;
             history_is = history_is;
             no_requests = spare.no_requests;
             no_outcomes = spare.no_outcomes;
             request_spaces = omega arith;
             outcome_spaces = omega arith;
           },
-          (refl, front_of slots sized r.line_holds.no_strangers (unlock_knows room s r id c there (pass_in c) has all_told)),
+          (refl, front_of slots sized r.line_holds.no_strangers (unlock_knows bounds s r id c there (pass_in c) has all_told)),
         )

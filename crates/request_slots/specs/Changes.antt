@@ -98,7 +98,7 @@ HasOwnCalls c line = (calls_by c.number line ≡ c.own) ⊎ (calls_by c.number l
 -- A book of a machine of so many callers has the caller's room, and a history that begins with its front, has of its own calls
 -- what it should, has no calls but of callers of the machine, and cuts no block.
 pub record ShowsLine (callers : ℕ) (c : Standing) (book : BookState) : Type 0 where
-  pub room : book.room ≡ c.room
+  pub bounds : book.bounds ≡ c.bounds
   pub begins : Begins c.seen book.history
   pub own : HasOwnCalls c book.history
   pub no_strangers : IsOfCallers callers book.history
@@ -108,6 +108,6 @@ pub record ShowsLine (callers : ℕ) (c : Standing) (book : BookState) : Type 0 
 abbrev pub Collected : Standing → Fate → Standing → Type 0
 Collected c (StandsAt place replies) d =
     (history : List Entry) × (length history ≡ place + length (left_calls c.phase))
-    × Answers c.room (left_start c.phase) c.own c.number (left_calls c.phase) history replies
+    × Answers c.bounds (left_start c.phase) c.own c.number (left_calls c.phase) history replies
     × Begins c.seen (longer c.seen history) × Begins history (longer c.seen history) × (d ≡ answering_calls c (left_calls c.phase) history)
 Collected c (CameBack back) d = (back ≡ left_calls c.phase) × (d ≡ resting c)

@@ -3,6 +3,7 @@
 use Rattle.std.specs.Global.{Box}
 use Rattle.std.specs.Prelude.{◌≡◌, ◌≢◌, ℕ, ◌-◌, false, List, [], ◌∷◌, length}
 use Rattle.atomic_table.specs.Table.{Me, Step, rest}
+use Rattle.vector_memory.specs.declared.bounds.Bounds.{Bounds}
 use Rattle.call_history.specs.declared.entry.Entry.{Entry}
 use Rattle.call_history.specs.declared.request.Job.{Job}
 use Rattle.call_history.specs.declared.request.Outcome.{Outcome}
@@ -104,4 +105,4 @@ Adopts st m found m' =
 
 -- a new caller of this machine is at its place, with its slot
 abbrev pub Arrives : Machine → Step Slot → Sat → ℕ → Sat → Type 0
-Arrives machine st m found m' = (room k : ℕ) → m.0 ≡ Newcomer room k → m' ≡ (Caller (untold (newcomer machine room k)), (own_slot k, Nothing) ∷ [])
+Arrives machine st m found m' = (bounds : Bounds) (k : ℕ) → m.0 ≡ Newcomer bounds k → m' ≡ (Caller (untold (newcomer machine bounds k)), (own_slot k, Nothing) ∷ [])

@@ -4,6 +4,7 @@
 use Rattle.std.specs.Global.{Box}
 use Rattle.std.specs.Prelude.{◌≡◌, ℕ, ◌+◌, ◌<◌, ◌≤◌, true, false, List, [], Option, Some, None, vec_capacity}
 use mathlib.Core.Option.{some}
+use Rattle.vector_memory.specs.declared.bounds.Bounds.{Bounds}
 use lib.ListN.{get_elem?}
 use Rattle.call_history.specs.declared.entry.Entry.{Entry}
 use Rattle.call_history.specs.History.{Begins}
@@ -18,8 +19,8 @@ use Rattle.request_slots.specs.Stages.{Station, Home, at_home, is_out}
 use Rattle.request_slots.specs.Passes.{Lock, free, held_by, is_in}
 
 -- a desk at home has the book of the line, and empty vectors with space for each caller
-pub record DeskRests (room n : ℕ) (line : List Entry) (d : Desk) : Type 0 where
-  pub room_is : d.book.room ≡ room
+pub record DeskRests (bounds : Bounds) (n : ℕ) (line : List Entry) (d : Desk) : Type 0 where
+  pub bounds_is : d.book.bounds ≡ bounds
   pub history_is : d.book.history ≡ line
   pub no_requests : d.requests.items ≡ []
   pub no_outcomes : d.outcomes.items ≡ []
@@ -35,11 +36,11 @@ pub record PassHolds (n : ℕ) (line : List Entry) (p : Pass) : Type 0 where
   pub of_callers : (k : ℕ) → n ≤ k → request_by k p.taken ≡ None
 
 -- nobody has the desk, and it is at home
-pub record FreeHolds (room n : ℕ) (line : List Entry) (word : ℕ) (home : Home) : Type 0 where
+pub record FreeHolds (bounds : Bounds) (n : ℕ) (line : List Entry) (word : ℕ) (home : Home) : Type 0 where
   pub word_is : word ≡ 0
   pub desk : Box Desk
   pub home_is : home ≡ at_home (Kept desk)
-  pub rests : DeskRests room n line desk.value
+  pub rests : DeskRests bounds n line desk.value
 
 -- caller h has the desk, and it is out
 pub record HeldHolds (n : ℕ) (line : List Entry) (word : ℕ) (home : Home) (h : ℕ) (p : Pass) : Type 0 where
@@ -48,9 +49,9 @@ pub record HeldHolds (n : ℕ) (line : List Entry) (word : ℕ) (home : Home) (h
   pub home_is : home ≡ is_out
   pub pass : PassHolds n line p
 
-abbrev pub LockHolds : ℕ → ℕ → List Entry → ℕ → Home → Lock → Type 0
-LockHolds room n line word home free = FreeHolds room n line word home
-LockHolds room n line word home (held_by h p) = HeldHolds n line word home h p
+abbrev pub LockHolds : Bounds → ℕ → List Entry → ℕ → Home → Lock → Type 0
+LockHolds bounds n line word home free = FreeHolds bounds n line word home
+LockHolds bounds n line word home (held_by h p) = HeldHolds n line word home h p
 
 -- the caller that the lock names has a seat, which has the pass
 abbrev pub HolderSits : List View → (ℕ → Station) → Lock → Type 0
@@ -60,8 +61,8 @@ HolderSits views station (held_by h p) =
 
 -- the caller that a view is of
 abbrev pub sitter_of : View → Option ℕ
-sitter_of (Maker room k) = None
-sitter_of (Newcomer room k) = Some k
+sitter_of (Maker bounds k) = None
+sitter_of (Newcomer bounds k) = Some k
 sitter_of (Caller c) = Some c.standing.number
 sitter_of (Bare seen) = None
 sitter_of Spent = None

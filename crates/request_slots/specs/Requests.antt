@@ -1,6 +1,7 @@
 -- The fourth clause of the rule: what lies in a caller's slot at each stage of its word, one definition a stage.
 -- `FateHolds` is what an outcome promises, `CallerHolds` the whole clause for one caller.
 use Rattle.std.specs.Prelude.{◌≡◌, ℕ, ◌+◌, ◌≤◌, Bool, true, false, List, [], ◌++◌, length, take, Option, Some, None}
+use Rattle.vector_memory.specs.declared.bounds.Bounds.{Bounds}
 use Rattle.cvl_text.specs.declared.call.Call.{Call}
 use Rattle.call_history.specs.declared.entry.Entry.{Entry}
 use Rattle.call_history.specs.declared.request.Job.{Job}
@@ -15,12 +16,12 @@ use Rattle.request_slots.specs.Passes.{Part}
 
 -- What became of the calls that caller k left when it had seen `start`. They stand in the line, and the line up to and with
 -- them answers them, or they came back and stand in no history.
-abbrev pub FateHolds : ℕ → List Entry → ℕ → List Call → List Call → List Entry → Fate → Type 0
-FateHolds room line k own calls start (StandsAt place replies) =
+abbrev pub FateHolds : Bounds → List Entry → ℕ → List Call → List Call → List Entry → Fate → Type 0
+FateHolds bounds line k own calls start (StandsAt place replies) =
     (place + length calls ≤ length line)
-    × Answers room start own k calls (take (place + length calls) line) replies
+    × Answers bounds start own k calls (take (place + length calls) line) replies
     × (calls_by k line ≡ own ++ calls)
-FateHolds room line k own calls start (CameBack back) = (back ≡ calls) × (calls_by k line ≡ own)
+FateHolds bounds line k own calls start (CameBack back) = (back ≡ calls) × (calls_by k line ≡ own)
 
 -- the slot is at home and empty, and nothing was ever asked
 pub record UnmadeHolds (line : List Entry) (home : Home) (k : ℕ) (own : List Call) : Type 0 where
@@ -41,30 +42,30 @@ pub record PostedHolds (line : List Entry) (home : Home) (k : ℕ) (own : List C
   pub own_is : calls_by k line ≡ own
 
 -- before the commit nothing became of the job, and after it the pass has its outcome
-abbrev pub ServedHolds : ℕ → List Entry → Option Outcome → ℕ → List Call → Job → List Entry → Bool → Type 0
-ServedHolds room line outcome k own job start false = calls_by k line ≡ own
-ServedHolds room line outcome k own job start true =
-    (o : Outcome) × (outcome ≡ Some o) × IsOfJob job o × FateHolds room line k own (calls_of job) start (fate_of o)
+abbrev pub ServedHolds : Bounds → List Entry → Option Outcome → ℕ → List Call → Job → List Entry → Bool → Type 0
+ServedHolds bounds line outcome k own job start false = calls_by k line ≡ own
+ServedHolds bounds line outcome k own job start true =
+    (o : Outcome) × (outcome ≡ Some o) × IsOfJob job o × FateHolds bounds line k own (calls_of job) start (fate_of o)
 
 -- the caller that has the desk has the slot
-pub record TakenHolds (room : ℕ) (line : List Entry) (part : Part) (home : Home) (k : ℕ) (own : List Call) (job : Job) (start : List Entry) : Type 0 where
+pub record TakenHolds (bounds : Bounds) (line : List Entry) (part : Part) (home : Home) (k : ℕ) (own : List Call) (job : Job) (start : List Entry) : Type 0 where
   pub home_is : home ≡ is_out
   pub begins : Begins start part.before
-  pub served : ServedHolds room line part.outcome k own job start part.committed
+  pub served : ServedHolds bounds line part.outcome k own job start part.committed
 
 -- the outcome lies in the slot
-pub record DoneHolds (room : ℕ) (line : List Entry) (home : Home) (k : ℕ) (own : List Call) (job : Job) (start : List Entry) : Type 0 where
+pub record DoneHolds (bounds : Bounds) (line : List Entry) (home : Home) (k : ℕ) (own : List Call) (job : Job) (start : List Entry) : Type 0 where
   pub outcome : Outcome
   pub home_is : home ≡ at_home (Told outcome)
   pub of_job : IsOfJob job outcome
-  pub fate : FateHolds room line k own (calls_of job) start (fate_of outcome)
+  pub fate : FateHolds bounds line k own (calls_of job) start (fate_of outcome)
 
-abbrev pub StageHolds : ℕ → List Entry → Part → Home → ℕ → Station → Stage → Type 0
-StageHolds room line part home k s unmade = UnmadeHolds line home k s.own
-StageHolds room line part home k s idle = IdleHolds line home k s.own
-StageHolds room line part home k s posted = PostedHolds line home k s.own s.job s.start
-StageHolds room line part home k s taken = TakenHolds room line part home k s.own s.job s.start
-StageHolds room line part home k s done = DoneHolds room line home k s.own s.job s.start
+abbrev pub StageHolds : Bounds → List Entry → Part → Home → ℕ → Station → Stage → Type 0
+StageHolds bounds line part home k s unmade = UnmadeHolds line home k s.own
+StageHolds bounds line part home k s idle = IdleHolds line home k s.own
+StageHolds bounds line part home k s posted = PostedHolds line home k s.own s.job s.start
+StageHolds bounds line part home k s taken = TakenHolds bounds line part home k s.own s.job s.start
+StageHolds bounds line part home k s done = DoneHolds bounds line home k s.own s.job s.start
 
 -- the job that a pass has taken of a caller at this stage
 abbrev pub request_at : Stage → Job → Option Job
@@ -75,7 +76,7 @@ request_at taken job = Some job
 request_at done job = None
 
 -- of one caller: its word, its slot, and what the pass has of it
-pub record CallerHolds (room : ℕ) (line : List Entry) (part : Part) (word : ℕ) (home : Home) (k : ℕ) (s : Station) : Type 0 where
+pub record CallerHolds (bounds : Bounds) (line : List Entry) (part : Part) (word : ℕ) (home : Home) (k : ℕ) (s : Station) : Type 0 where
   pub word_is : word ≡ code s.stage
   pub request_is : part.request ≡ request_at s.stage s.job
-  pub stage_holds : StageHolds room line part home k s s.stage
+  pub stage_holds : StageHolds bounds line part home k s s.stage

@@ -3,6 +3,7 @@
 use Rattle.std.specs.Global.{Vec}
 use Rattle.std.specs.Prelude.{◌≡◌, ℕ, zero, suc, ◌-◌, Bool, true, false, List, [], ◌∷◌, ◌++◌}
 use Rattle.atomic_table.specs.Seated.{TableId}
+use Rattle.vector_memory.specs.declared.bounds.Bounds.{Bounds}
 use Rattle.cvl_text.specs.declared.call.Call.{Call}
 use Rattle.cvl_text.specs.declared.call.Call.TheVariants.{Get}
 use Rattle.call_history.specs.declared.entry.Entry.{Entry}
@@ -27,11 +28,15 @@ callers_of m = m.slots - 1
 abbrev pub nowhere : Machine
 nowhere = record { words = 0; slots = 0; views_name = 0; atom = 0; block = 0; offset = 0; slot_names = [] }
 
+-- what stands for the bounds of a memory where nothing is known of any
+abbrev pub boundless : Bounds
+boundless = record { room = 0; limit = 0 }
+
 pub record Standing : Type 0 where
   -- the machine that it calls
   pub machine : Machine
   -- the greatest number of items in the memory of that machine
-  pub room : ℕ
+  pub bounds : Bounds
   -- its number, from 0
   pub number : ℕ
   -- its front: all that it has seen of the history
@@ -103,10 +108,10 @@ abbrev pub FrontHolds : ℕ → Standing → Type 0
 FrontHolds callers c = Rests c × IsOfCallers callers c.seen × Whole c.seen
 
 -- a caller of a new machine, which has seen nothing
-abbrev pub newcomer : Machine → ℕ → ℕ → Standing
-newcomer m room k = record {
+abbrev pub newcomer : Machine → Bounds → ℕ → Standing
+newcomer m bounds k = record {
   machine = m;
-  room = room;
+  bounds = bounds;
   number = k;
   seen = [];
   own = [];
@@ -118,6 +123,6 @@ newcomer m room k = record {
 }
 
 -- the first n callers of a new machine
-abbrev pub newcomers : Machine → ℕ → ℕ → List Standing
-newcomers m room zero = []
-newcomers m room (suc n) = newcomers m room n ++ newcomer m room n ∷ []
+abbrev pub newcomers : Machine → Bounds → ℕ → List Standing
+newcomers m bounds zero = []
+newcomers m bounds (suc n) = newcomers m bounds n ++ newcomer m bounds n ∷ []

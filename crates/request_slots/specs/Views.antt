@@ -12,7 +12,7 @@ use Rattle.request_slots.specs.declared.known.Known.{Known}
 use Rattle.request_slots.specs.declared.known.View.{View}
 use Rattle.request_slots.specs.declared.known.View.TheVariants.{Maker, Newcomer, Caller, Bare, Spent}
 use Rattle.request_slots.specs.Passes.{is_in, fresh_pass, commits}
-use Rattle.request_slots.specs.Standing.{Standing, nowhere, newcomer}
+use Rattle.request_slots.specs.Standing.{Standing, nowhere, boundless, newcomer}
 use Rattle.request_slots.specs.Changes.{longer, seeing, holding, noting, entering, settling}
 
 -- a caller that stands so was told nothing, and does not have the desk
@@ -26,16 +26,16 @@ with_standing c d = record c { standing = d }
 -- what the seat of a caller knows; of another seat this says nothing
 abbrev pub known_of : View → Known
 known_of (Caller c) = c
-known_of (Maker room k) = untold (newcomer nowhere 0 0)
-known_of (Newcomer room k) = untold (newcomer nowhere 0 0)
-known_of (Bare seen) = untold (newcomer nowhere 0 0)
-known_of Spent = untold (newcomer nowhere 0 0)
+known_of (Maker bounds k) = untold (newcomer nowhere boundless 0)
+known_of (Newcomer bounds k) = untold (newcomer nowhere boundless 0)
+known_of (Bare seen) = untold (newcomer nowhere boundless 0)
+known_of Spent = untold (newcomer nowhere boundless 0)
 
 -- what a bare view has seen; of another view this says nothing
 abbrev pub seen_in : View → List Entry
 seen_in (Bare seen) = seen
-seen_in (Maker room k) = []
-seen_in (Newcomer room k) = []
+seen_in (Maker bounds k) = []
+seen_in (Newcomer bounds k) = []
 seen_in (Caller c) = []
 seen_in Spent = []
 
@@ -92,16 +92,16 @@ pub record IsEntered (k : ℕ) (line line' : List Entry) : Type 0 where
 
 -- the maker goes on to the next caller
 abbrev pub next_maker : View → View
-next_maker (Maker room k) = Maker room (k + 1)
-next_maker (Newcomer room k) = Spent
+next_maker (Maker bounds k) = Maker bounds (k + 1)
+next_maker (Newcomer bounds k) = Spent
 next_maker (Caller c) = Spent
 next_maker (Bare seen) = Spent
 next_maker Spent = Spent
 
 -- the caller that the maker gives a seat
 abbrev pub next_caller : View → View
-next_caller (Maker room k) = Newcomer room k
-next_caller (Newcomer room k) = Spent
+next_caller (Maker bounds k) = Newcomer bounds k
+next_caller (Newcomer bounds k) = Spent
 next_caller (Caller c) = Spent
 next_caller (Bare seen) = Spent
 next_caller Spent = Spent

@@ -4,6 +4,7 @@
 use call_history::{Entry, Job, Outcome, Request};
 use std::convert::Infallible;
 use std::marker::Model;
+use vector_memory::Bounds;
 
 /// What the caller that has the desk knows of its pass.
 pub struct Pass {
@@ -53,10 +54,10 @@ pub struct Known {
 
 /// What a seat knows.
 pub enum View {
-    /// It makes the callers from this number on, of a history of this room.
-    Maker(u64, u64),
-    /// A caller with this room and number, whose slot is still at home.
-    Newcomer(u64, u64),
+    /// It makes the callers from this number on, of a history whose memory has these bounds.
+    Maker(Bounds, u64),
+    /// A caller of a history with these bounds, of this number, whose slot is still at home.
+    Newcomer(Bounds, u64),
     Caller(Known),
     /// What a caller had seen, split off for another.
     Bare([Entry; 0]),

@@ -18,21 +18,21 @@ use crate::seat::Seat;
 use atomic_table::{Table, TableRule};
 use std::alloc::Global;
 use std::marker::{Brand, Model};
-use vector_memory::OutOfMemory;
+use vector_memory::{Bounds, OutOfMemory};
 
-/// The rule of the table, of which the key is the room.
+/// The rule of the table, of which the key is how much the memory may hold.
 pub(crate) struct OneHistory;
 
-impl TableRule<Slot, View, u64> for OneHistory {
+impl TableRule<Slot, View, Bounds> for OneHistory {
     ghost holds = { Lawful };
 
-    ghost first = { λ room. Maker room 0 };
+    ghost first = { λ bounds. Maker bounds 0 };
 }
 
 /// The words and slots of one table, shared by its seats. To a contract it is the table's name.
 #[derive(Drop)]
 pub struct Slots {
-    pub(crate) table: Table<Slot, View, u64, OneHistory, Global>,
+    pub(crate) table: Table<Slot, View, Bounds, OneHistory, Global>,
 }
 
 impl Model for Slots {
@@ -53,20 +53,20 @@ impl Slots {
         requires empty { desk.value.book.history ≡ [] }
         requires spare { IsSpare (callers + 1) desk.value }
         ensures size { IfOk result (λ t. t.0.slots ≡ callers + 1) }
-        ensures seats { IfOk result (λ t. t.1.items ≡ map untold (newcomers t.0 desk.value.book.room callers)) }
+        ensures seats { IfOk result (λ t. t.1.items ≡ map untold (newcomers t.0 desk.value.book.bounds callers)) }
         ensures each { IfOk result (λ t. All (IsNewSeatAt t.0) t.1.items) }
     {
-        let room = desk.book.room();
+        let bounds = desk.book.bounds();
         let mut seats = Vec::with_capacity(alloc, callers)?;
         // Up to where the word of one caller more would be. The lock is free and the length 0, which is the number of UNMADE too.
         let words = Vec::from_elem(alloc, UNMADE, word_at(callers))?;
         let homes = homes_of(alloc, callers, desk)?;
-        let Ok((table, mut maker)) = Table::new(alloc, words.as_slice(), homes, &room) else {
+        let Ok((table, mut maker)) = Table::new(alloc, words.as_slice(), homes, &bounds) else {
             return Err(OutOfMemory);
         };
         let slots = Slots { table };
         for k in 0..callers {
-            seats.push(slots.make_caller(&mut maker, room, k))?;
+            seats.push(slots.make_caller(&mut maker, bounds, k))?;
         }
         Ok((slots, seats))
     }
@@ -85,32 +85,32 @@ impl Slots {
     fn make_caller(
         &self,
         maker: &mut atomic_table::Seat<Slot, View>,
-        room: u64,
+        bounds: Bounds,
         number: usize,
     ) -> Seat
         requires place { maker.old.table_id ≡ self.now }
-        requires maker { maker.old.me ≡ (Maker room number, []) }
+        requires maker { maker.old.me ≡ (Maker bounds number, []) }
         requires size { (number + 1 < self.now.slots) × (self.now.slots ≤ 65) × (self.now.words ≡ 8 * self.now.slots + 8) }
         ensures place { maker.new.table_id ≡ self.now }
-        ensures maker { maker.new.me ≡ (Maker room (number + 1), []) }
-        ensures seat { result ≡ untold (newcomer self.now room number) }
+        ensures maker { maker.new.me ≡ (Maker bounds (number + 1), []) }
+        ensures seat { result ≡ untold (newcomer self.now bounds number) }
     {
-        self.make_caller_at::<Brand>(maker, room, number)
+        self.make_caller_at::<Brand>(maker, bounds, number)
     }
 
     fn make_caller_at<P: Place>(
         &self,
         maker: &mut atomic_table::Seat<Slot, View>,
-        room: u64,
+        bounds: Bounds,
         number: usize,
     ) -> Seat
         requires machine { P.machine ≡ self.now }
         requires place { maker.old.table_id ≡ self.now }
-        requires maker { maker.old.me ≡ (Maker room number, []) }
+        requires maker { maker.old.me ≡ (Maker bounds number, []) }
         requires size { (number + 1 < self.now.slots) × (self.now.slots ≤ 65) × (self.now.words ≡ 8 * self.now.slots + 8) }
         ensures place { maker.new.table_id ≡ self.now }
-        ensures maker { maker.new.me ≡ (Maker room (number + 1), []) }
-        ensures seat { result ≡ untold (newcomer P.machine room number) }
+        ensures maker { maker.new.me ≡ (Maker bounds (number + 1), []) }
+        ensures seat { result ≡ untold (newcomer P.machine bounds number) }
     {
         let shared = &self.table.shared;
         let mut seat = shared.split_seat::<Make>(maker);

@@ -17,7 +17,7 @@ impl Slots {
         requires desk { HasDesk seat.old }
         requires open { (pass_in seat.old).committed ≡ false }
         requires tried { (i : ℕ) → i + 1 < self.now.slots → is_in (pass_in seat.old).tried i ≡ true }
-        requires fits { Fits seat.old.standing.room (pass_in seat.old).line (pass_in seat.old).taken
+        requires fits { Fits seat.old.standing.bounds (pass_in seat.old).line (pass_in seat.old).taken
             desk.now.book.history desk.now.outcomes.items }
         ensures place { seat.new.standing.machine ≡ self.now }
         ensures known { seat.new
@@ -32,7 +32,7 @@ impl Slots {
         requires desk { HasDesk seat.old }
         requires open { (pass_in seat.old).committed ≡ false }
         requires tried { (i : ℕ) → i + 1 < self.now.slots → is_in (pass_in seat.old).tried i ≡ true }
-        requires fits { Fits seat.old.standing.room (pass_in seat.old).line (pass_in seat.old).taken
+        requires fits { Fits seat.old.standing.bounds (pass_in seat.old).line (pass_in seat.old).taken
             B.line B.outcomes }
         ensures place { seat.new.standing.machine ≡ self.now }
         ensures known { seat.new ≡ committing seat.old (pass_in seat.old) B.line B.outcomes }

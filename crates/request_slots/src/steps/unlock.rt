@@ -17,7 +17,7 @@ impl Slots {
         requires desk { HasDesk seat.old }
         requires all_told { (pass_in seat.old).taken ≡ [] }
         requires line { desk.value.book.history ≡ (pass_in seat.old).line }
-        requires room { desk.value.book.room ≡ seat.old.standing.room }
+        requires bounds { desk.value.book.bounds ≡ seat.old.standing.bounds }
         requires spare { IsSpare self.now.slots desk.value }
         ensures place { seat.new.standing.machine ≡ self.now }
         ensures known { seat.new ≡ unlocking seat.old (pass_in seat.old) }

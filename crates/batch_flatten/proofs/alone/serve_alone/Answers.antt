@@ -12,4 +12,4 @@ returns-clause-serves g c =
     let none : c.pop.new.self.items ≡ [] = search rules in
     let asked : c.args.requests.now.items ≡ r ∷ [] = ◌∙◌ {A = List Request} c.in-Some.ensures.items (ap (λ l. l ++ r ∷ []) none) in
     let said : c.run_onto.new.outcomes.items ≡ o ∷ [] = ◌∙◌ {A = List Outcome} ran.1 (ap (λ l. l ++ o ∷ []) c.requires.empty) in
-    alone-served c.args.book.now.room c.args.book.now.history c.args.requests.now.items c.run_onto.new.outcomes.items r c.reserve.new.self c.run_onto.new.book o asked said c.len-entries.ensures.whole c.in-Ok.ensures.room c.in-Ok.ensures.history ran.3
+    alone-served c.args.book.now.bounds c.args.book.now.history c.args.requests.now.items c.run_onto.new.outcomes.items r c.reserve.new.self c.run_onto.new.book o asked said c.len-entries.ensures.whole c.in-Ok.ensures.bounds c.in-Ok.ensures.history ran.3

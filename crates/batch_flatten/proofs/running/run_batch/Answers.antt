@@ -6,7 +6,7 @@ use Rattle.batch_flatten.proofs.running.run_batch.Goals as goal
 
 pub returns-in_default-clause-serves : goal.returns-in_default-clause-serves
 returns-in_default-clause-serves g c =
-    batch_back c.args.book.now.room c.args.book.now.history c.reserve.new.self.history c.args.requests.now.items c.open-roll.new.outcomes.items c.len-entries.ensures.whole c.in_default.ensures.history c.open-roll.ensures.outcomes
+    batch_back c.args.book.now.bounds c.args.book.now.history c.reserve.new.self.history c.args.requests.now.items c.open-roll.new.outcomes.items c.len-entries.ensures.whole c.in_default.ensures.history c.open-roll.ensures.outcomes
 
 pub returns-clause-serves : goal.returns-clause-serves
 returns-clause-serves g c =
@@ -15,8 +15,8 @@ returns-clause-serves g c =
     let n = vec_len c.open-roll.new.outcomes in
     let count : n ≡ length c.open-roll.new.outcomes.items = search rules in
     let many : n ≡ length rs = count ∙ ap length c.open-roll.ensures.outcomes ∙ length-map rs returned in
-    batch_done c.args.book.now.room c.reserve.new.self.room c.args.book.now.history c.reserve.new.self.history c.serve_waves-singles.new.book.history rs roll.callers roll.waves n roll.count
-    c.open-roll.new.outcomes.items c.serve_waves-singles.new.outcomes.items c.len-entries.ensures.whole c.in-Ok.ensures.room c.in-Ok.ensures.history c.open-roll.ensures.outcomes many c.requires.distinct c.open-roll.ensures.callers c.open-roll.ensures.waves c.open-roll.ensures.count
+    batch_done c.args.book.now.bounds c.reserve.new.self.bounds c.args.book.now.history c.reserve.new.self.history c.serve_waves-singles.new.book.history rs roll.callers roll.waves n roll.count
+    c.open-roll.new.outcomes.items c.serve_waves-singles.new.outcomes.items c.len-entries.ensures.whole c.in-Ok.ensures.bounds c.in-Ok.ensures.history c.open-roll.ensures.outcomes many c.requires.distinct c.open-roll.ensures.callers c.open-roll.ensures.waves c.open-roll.ensures.count
     (c.serve_waves-singles.ensures.serves c.args.book.now.history rs)
 
 pub returns-clause-sure : goal.returns-clause-sure

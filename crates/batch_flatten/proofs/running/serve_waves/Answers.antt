@@ -107,8 +107,8 @@ loop-wave-preserved g c =
     let one = c.serve_wave-singles.ensures.few_singles in
     record {
       serves = λ line rs by s.
-          serving_wave c.args.book.now.room c.loop-wave.book.room line c.loop-wave.book.history rs done found (places_of_first ws (wave + 1)) c.loop-wave.outcomes.items
-          c.serve_wave-singles.new.book.history c.serve_wave-singles.new.outcomes.items inv.room next (subst (All (IsOutside done)) (sym is) (places-outside ws wave)) (inv.serves line rs by s) (c.serve_wave-singles.ensures.serves line rs done by);
+          serving_wave c.args.book.now.bounds c.loop-wave.book.bounds line c.loop-wave.book.history rs done found (places_of_first ws (wave + 1)) c.loop-wave.outcomes.items
+          c.serve_wave-singles.new.book.history c.serve_wave-singles.new.outcomes.items inv.bounds next (subst (All (IsOutside done)) (sym is) (places-outside ws wave)) (inv.serves line rs by s) (c.serve_wave-singles.ensures.serves line rs done by);
       sure = subst (AnswersSure c.serve_wave-singles.new.outcomes.items) next (c.serve_wave-singles.ensures.sure done inv.sure);
       counted = rises-both (kernels_below ws (take n c.args.roll.now.words) (sizes_back first) wave + c.loop-wave.singles)
           (different_kernels found_words + (sum (at_places (sizes_back c.loop-wave.outcomes.items) found) + c.serve_wave-singles.result))
@@ -116,7 +116,7 @@ loop-wave-preserved g c =
           (omega (arith, kernels, same, sizes)) inv.counted c.serve_wave-singles.ensures.counted;
       few_singles = omega arith;
       back = back-again c.args.outcomes.now.items c.loop-wave.outcomes.items c.serve_wave-singles.new.outcomes.items inv.back c.serve_wave-singles.ensures.back;
-      room = c.serve_wave-singles.ensures.room ∙ inv.room;
+      bounds = c.serve_wave-singles.ensures.bounds ∙ inv.bounds;
       space = c.serve_wave-singles.ensures.space;
       count = c.serve_wave-singles.ensures.count ∙ inv.count;
       spaces = c.serve_wave-singles.ensures.spaces ∙ inv.spaces;

@@ -30,7 +30,7 @@ serve_place-requires-clause-ready g c κs within =
 pub returns-clause-serves : goal.returns-clause-serves
 returns-clause-serves g c =
     λ line rs done by out s.
-    subst (λ (p : ℕ). Serving c.args.book.now.room line rs (done ++ p ∷ []) c.serve_place.new.book.history c.serve_place.new.outcomes.items) c.from-place.ensures
+    subst (λ (p : ℕ). Serving c.args.book.now.bounds line rs (done ++ p ∷ []) c.serve_place.new.book.history c.serve_place.new.outcomes.items) c.from-place.ensures
     (c.serve_place.ensures.serves line rs done by (subst (IsOutside done) (sym c.from-place.ensures) out) s)
 
 pub returns-clause-prepared : goal.returns-clause-prepared

@@ -14,7 +14,7 @@ returns-clause-serves g c =
     let here = stands-here os place (vec_len c.args.outcomes.now) was c.requires.place long c.index_mut-outcome.ensures.value in
     let ran = subst (λ k. RunsBack c.args.book.now c.run_back.new.book k was o) c.from-caller.ensures c.run_back.ensures.ran in
     λ line rs done by out.
-    serving_turn c.args.book.now.room line rs c.args.callers.now done place c.args.book.now c.run_back.new.book os was o refl (omega arith) by out here ran
+    serving_turn c.args.book.now.bounds line rs c.args.callers.now done place c.args.book.now c.run_back.new.book os was o refl (omega arith) by out here ran
 
 pub returns-clause-sure : goal.returns-clause-sure
 returns-clause-sure g c =

@@ -23,14 +23,14 @@ loop-position-init g c =
     let few = c.requires.few_places in
     let paired = c.requires.paired in
     record {
-      serves = λ line rs done by outside s. subst (λ (l : List ℕ). Serving c.args.book.now.room line rs l c.args.book.now.history c.args.outcomes.now.items) (sym (append-nil done)) s;
+      serves = λ line rs done by outside s. subst (λ (l : List ℕ). Serving c.args.book.now.bounds line rs l c.args.book.now.history c.args.outcomes.now.items) (sym (append-nil done)) s;
       sure = λ done sure. subst (AnswersSure c.args.outcomes.now.items) (sym (append-nil done)) sure;
       prepared = prepared-none (memory_of c.args.book.now) c.args.outcomes.now.items c.args.places.now c.args.words.now c.new-works.result.items few;
       together = together-first c.args.words.now (length c.args.places.now) paired few;
       counted = rises-same (0 + (0 + 0)) c.args.meter.now c.args.meter.now refl;
       few_singles = omega arith;
       back = λ i o there lacks. there;
-      room = refl;
+      bounds = refl;
       space = c.requires.space;
       count = refl;
       spaces = refl;
@@ -54,7 +54,7 @@ loop-position-preserved g c =
     let one = next.one in
     record {
       serves = λ line rs done by outside s.
-          serving_more c.args.book.now.room c.loop-position.book.room line c.loop-position.book.history rs done ps k (slice_index ps k) c.loop-position.outcomes.items inv.room refl lt outside c.requires.rising
+          serving_more c.args.book.now.bounds c.loop-position.book.bounds line c.loop-position.book.history rs done ps k (slice_index ps k) c.loop-position.outcomes.items inv.bounds refl lt outside c.requires.rising
           (inv.serves line rs done by outside s) c.serve_next-singles.new.book.history c.serve_next-singles.new.outcomes.items (next.serves line rs (done ++ take k ps) by);
       sure = λ done all. subst (AnswersSure c.serve_next-singles.new.outcomes.items) (one-more done ps k lt) (next.sure (done ++ take k ps) (inv.sure done all));
       prepared = next.prepared;
@@ -63,7 +63,7 @@ loop-position-preserved g c =
           c.args.meter.now c.serve_next-singles.new.meter (omega (arith, more, size)) (next.counted c.args.meter.now (all + singles) inv.counted);
       few_singles = omega arith;
       back = back-again c.args.outcomes.now.items c.loop-position.outcomes.items c.serve_next-singles.new.outcomes.items inv.back next.back;
-      room = next.room ∙ inv.room;
+      bounds = next.bounds ∙ inv.bounds;
       space = next.space;
       count = next.count ∙ inv.count;
       spaces = next.spaces ∙ inv.spaces;

@@ -26,6 +26,6 @@ store-requires g c = let seated = c.seat.invariant in
           (ap length (sym c.requires.batch.0) ∙ sym c.len-length.ensures.len)
           (commits_line c.self.inside.table.shared.key c.self.inside.table.shared.table_id.slots c.seat.inside.seat.id c.seat.inside.seat.me g.B.Batch.line g.B.Batch.outcomes seated.is_caller desk (ap (λ (k : Known). (pass_in k).committed) known ∙ c.requires.open)
           (λ i near. ap (λ (k : Known). is_in (pass_in k).tried i) known ∙ c.requires.tried i (subst (λ (n : ℕ). i + 1 < n) (ap (λ (z : TableId). z.slots) c.self.view_is) near))
-          (subst (λ (k : Known). Fits k.standing.room (pass_in k).line (pass_in k).taken g.B.Batch.line g.B.Batch.outcomes) (sym known) c.requires.fits)
+          (subst (λ (k : Known). Fits k.standing.bounds (pass_in k).line (pass_in k).taken g.B.Batch.line g.B.Batch.outcomes) (sym known) c.requires.fits)
           (subst Whole c.requires.batch.0 c.len-length.ensures.whole)),
     )

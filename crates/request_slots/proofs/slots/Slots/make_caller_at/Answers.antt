@@ -14,7 +14,7 @@ use Rattle.request_slots.proofs.slots.Slots.make_caller_at.Goals as goal
 pub split_seat-seat-requires : goal.split_seat-seat-requires
 split_seat-seat-requires g c =
     let two = first_word c.args.self.now _ c.args.number (sym c.self.view_is) c.requires.size.2 c.requires.size.0 in
-    (c.requires.place ∙ sym c.self.view_is, omega arith, makes_from _ c.args.room _ c.args.number _ (ap (λ m. m.0) c.requires.maker))
+    (c.requires.place ∙ sym c.self.view_is, omega arith, makes_from _ c.args.bounds _ c.args.number _ (ap (λ m. m.0) c.requires.maker))
 
 pub store-requires : goal.store-requires
 store-requires g c =
@@ -22,22 +22,22 @@ store-requires g c =
     let slots : c.args.self.now.slots ≡ c.self.inside.table.shared.table_id.slots = ap (λ (z : TableId). z.slots) (sym c.self.view_is) in rw c.word_at.ensures (
       search rules,
       caller_word c.args.self.now _ c.args.number (sym c.self.view_is) c.requires.size.2 c.requires.size.0,
-      arrives _ _ _ _ c.args.room c.args.number _ (c.split_seat-seat.ensures.4 ∙ ap (λ m. (next_caller m.0, [])) c.requires.maker) (subst (λ (n : ℕ). c.args.number + 1 < n) slots near),
+      arrives _ _ _ _ c.args.bounds c.args.number _ (c.split_seat-seat.ensures.4 ∙ ap (λ m. (next_caller m.0, [])) c.requires.maker) (subst (λ (n : ℕ). c.args.number + 1 < n) slots near),
     )
 
 pub invariant_of-result : goal.invariant_of-result
 invariant_of-result g c =
     let machine : Machine = g.P.Place.machine in
-    let now = c.store.ensures.2 c.args.room c.args.number (ap (λ m. m.0) c.split_seat-seat.ensures.4 ∙ ap (λ m. next_caller m.0) c.requires.maker) in
+    let now = c.store.ensures.2 c.args.bounds c.args.number (ap (λ m. m.0) c.split_seat-seat.ensures.4 ∙ ap (λ m. next_caller m.0) c.requires.maker) in
     let here = c.store.ensures.0 ∙ (c.split_seat-seat.ensures.3 ∙ c.requires.place) in
-    let is : c.store.new.seat.me.0 ≡ Caller (untold (newcomer machine c.args.room c.args.number)) = ap (λ m. m.0) now in
+    let is : c.store.new.seat.me.0 ≡ Caller (untold (newcomer machine c.args.bounds c.args.number)) = ap (λ m. m.0) now in
     let place = sym here in
     record {
       is_caller = subst (λ (v : View). v ≡ Caller (known_of v)) (sym is) refl;
       machine_is = ap (λ (v : View). (known_of v).standing.machine) is ∙ (c.requires.machine ∙ place);
       number_is = ap (λ (v : View). (known_of v).standing.number) is;
       idle_is = ap (λ (v : View). not (left_in (known_of v).standing.phase)) (sym is);
-      hand_is = ap (λ m. m.1) now ∙ (sym (hand_own c.no_marks.result (untold (newcomer machine c.args.room c.args.number)) refl c.no_marks.ensures) ∙ ap (λ (v : View). hand_of c.no_marks.result (known_of v)) (sym is));
+      hand_is = ap (λ m. m.1) now ∙ (sym (hand_own c.no_marks.result (untold (newcomer machine c.args.bounds c.args.number)) refl c.no_marks.ensures) ∙ ap (λ (v : View). hand_of c.no_marks.result (known_of v)) (sym is));
       marked = subst (λ (v : View). IsMarked c.no_marks.result (pass_in (known_of v)).taken) (sym is) c.no_marks.ensures;
       wide = subst (λ (z : Machine). z.words ≡ 8 * z.slots + 8) place c.requires.size.2;
       inside = subst (λ (z : Machine). c.args.number + 1 < z.slots) place c.requires.size.0;

@@ -15,5 +15,5 @@ store-requires c = let seated = c.seat.invariant in
       omega arith,
       unlocks _ _ _ c.seat.inside.seat.me _ c.args.desk c.exchange.ensures.3 seated.is_caller desk
           (ap (λ (k : Known). (pass_in k).taken) known ∙ c.requires.all_told) (c.requires.line ∙ ap (λ (k : Known). (pass_in k).line) (sym known))
-          (c.requires.room ∙ ap (λ (k : Known). k.standing.room) (sym known)) (search rules),
+          (c.requires.bounds ∙ ap (λ (k : Known). k.standing.bounds) (sym known)) (search rules),
     )
