@@ -1,5 +1,5 @@
 -- A read or a write that is tried again: what failed before it took and gave nothing.
-use Rattle.std.proofs.Common.{◌≡◌, ℕ, List, Option, Some, None, Result, Ok, Err, IsErr, sym, subst, refl}
+use Rattle.std.proofs.Common.{ℕ, List, Option, Some, None, Result, Ok, Err, IsErr, subst, refl}
 use Rattle.std.specs.Io.KnownBytes.{Keeps, ReadConsumes, WriteAppends}
 
 pub keeps_self : (known : Option (List ℕ)) → Keeps known known

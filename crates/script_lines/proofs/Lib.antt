@@ -6,4 +6,6 @@ pub mod WalkLemmas
 pub mod ServeLemmas
 pub mod ReadLemmas
 pub mod StreamLemmas
-pub mod CallLemmas
+pub mod JobLemmas
+pub mod StageLemmas
+pub mod BlockLemmas

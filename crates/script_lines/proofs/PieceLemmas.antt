@@ -1,12 +1,15 @@
 -- The lines of a script, cut at its line feeds.
 -- `cut_lines-line`: a line and its line feed are the first piece; `one-piece`: a text with no line feed is one piece;
 -- `lines_of-last` and `lines_of-long` say the same of lines.
-use Rattle.std.proofs.Common.{◌≡◌, ℕ, ◌<◌, Bool, true, false, eqb, not, ◌&&◌, List, [], ◌∷◌, ◌++◌, length, refl, ap, ◌∙◌, arith}
+use Rattle.std.proofs.Common.{◌≡◌, ℕ, ◌<◌, Bool, true, false, eqb, not, ◌&&◌, List, [], ◌∷◌, ◌++◌, length, refl, sym, ap, ◌∙◌, arith}
+use Rattle.std.specs.Cmp.Lexicographic as texts
 use Rattle.std.specs.List.{list_all}
+use Rattle.std.specs.Prelude.{codes}
+use Rattle.vector_memory.specs.declared.edition.Edition.TheVariants.{One}
 use Rattle.std.proofs.lemmas.List.{length-append}
 use Rattle.std.proofs.lemmas.Bool.{lt-ltb}
 use Rattle.std.proofs.Math.Dec.{eqb-suc-zero}
-use Rattle.script_lines.specs.Scripts.{Bad, IsOneLine, onto_first_line, cut_lines, but_last, but_empty_last, lines_of, line_of, line_limit}
+use Rattle.script_lines.specs.Scripts.{Stage, AtStart, Outside, Inside, Bad, IsOneLine, is_head, onto_first_line, cut_lines, but_last, but_empty_last, lines_of, plain_line, line_of, line_limit}
 
 no-feed-by : (t r : Bool) → not t && r ≡ true → (t ≡ false) × (r ≡ true)
 no-feed-by true r h = absurd cc
@@ -69,16 +72,33 @@ pub lines_of-last : (text : List ℕ) → IsOneLine text → 0 < length text →
 unfolding lines_of
 lines_of-last text h some = ap but_empty_last (one-piece text h) ∙ full-last text some
 
-line_of-long : (text : List ℕ) → line_limit < length text → line_of text ≡ Bad
-unfolding line_of
-line_of-long text lt = rw (lt-ltb line_limit (length text) lt) refl
+plain-long : (stage : Stage) (text : List ℕ) → line_limit < length text → plain_line stage text ≡ Bad
+unfolding plain_line
+plain-long stage text lt = rw (lt-ltb line_limit (length text) lt) refl
 
--- a first line that is too long is bad, whatever comes behind it
+-- a line that is too long is no head
+long-no_head : (text : List ℕ) → line_limit < length text → is_head text ≡ false
+long-no_head text lt = by (is_head text) refl
+  where
+    by : (t : Bool) → is_head text ≡ t → is_head text ≡ false
+    by false e = e
+    by true e =
+        let same : text ≡ codes "cvl 2" = texts.same_text text (codes "cvl 2") (sym e) in
+        let short : length text ≡ 5 = ap length same in
+        absurd (omega (arith, lt, short))
+
+pub line_of-long : (stage : Stage) (text : List ℕ) → line_limit < length text → line_of stage text ≡ Bad
+unfolding line_of
+line_of-long AtStart text lt = rw (long-no_head text lt) (plain-long (Outside One) text lt)
+line_of-long (Outside edition) text lt = plain-long (Outside edition) text lt
+line_of-long (Inside caller tasks) text lt = plain-long (Inside caller tasks) text lt
+
+-- a first line that is too long is bad at each stage, whatever comes behind it
 pub lines_of-long : (text more : List ℕ) → IsOneLine text → line_limit < length text
-    → (l : List ℕ) × (ls : List (List ℕ)) × (line_of l ≡ Bad) × (lines_of (text ++ more) ≡ l ∷ ls)
+    → (l : List ℕ) × (ls : List (List ℕ)) × ((stage : Stage) → line_of stage l ≡ Bad) × (lines_of (text ++ more) ≡ l ∷ ls)
 unfolding lines_of
 lines_of-long text more h long =
     let p = long-piece text more h in
     let longer : line_limit < length (text ++ p.0) = omega (arith, length-append text p.0) in
     let f = full-first (text ++ p.0) p.1 (omega arith) in
-    (text ++ p.0, f.0, line_of-long (text ++ p.0) longer, ap but_empty_last p.2 ∙ f.1)
+    (text ++ p.0, f.0, λ stage. line_of-long stage (text ++ p.0) longer, ap but_empty_last p.2 ∙ f.1)

@@ -1,12 +1,14 @@
 -- Going through the lines of an input: `walked-start`, `walked-next` for a line, `walked-read` and `walked-end` for what is
 -- read, and what the end or a fault says of the lines of the whole input.
-use Rattle.std.proofs.Common.{◌≡◌, ℕ, ◌+◌, ◌^◌, ◌<◌, Bool, true, false, cond, List, [], ◌∷◌, ◌++◌, length, refl, sym, ap, ◌∙◌, subst, Option, Some, None, Ok, append_assoc, arith}
+use Rattle.std.proofs.Common.{◌≡◌, inl, inr, ℕ, ◌+◌, ◌^◌, ◌<◌, Bool, true, false, cond, List, [], ◌∷◌, ◌++◌, length, refl, sym, ap, ◌∙◌, subst, Option, Some, None, Result, Ok, append_assoc, arith}
 use Rattle.std.specs.Io.KnownBytes.{Consumes, IsAtEnd, Keeps, prepend_known}
 use Rattle.std.proofs.lemmas.List.{append-nil, length-append}
+use Rattle.script_lines.specs.declared.fault.InputFault.{InputFault}
 use Rattle.script_lines.specs.declared.line.LineFault.{LineFault}
 use Rattle.script_lines.specs.declared.line.LineFault.TheVariants as faults
-use Rattle.script_lines.specs.Scripts.{line_limit, Bad, line_of, IsOneLine, cut_lines, but_last, but_empty_last, lines_of, whole_lines}
-use Rattle.script_lines.specs.Walks.{Walk, Place, unwalked, IsCountable, IsNextLine, IsFed, HasWalked, IsReadUpTo, IsHalt, Fills, halt_at}
+use Rattle.script_lines.specs.Scripts.{Stage, AtStart, bad_end, line_limit, Bad, line_of, stage_after, IsOneLine, cut_lines, but_last, but_empty_last, lines_of, whole_lines}
+use Rattle.script_lines.specs.Stages.{ended_by, end_at}
+use Rattle.script_lines.specs.Walks.{Walk, Place, unwalked, IsCountable, IsNextLine, IsFed, HasWalked, IsReadUpTo, IsHalt, Fills, FillsOrEnds, halt_at}
 use Rattle.script_lines.proofs.PieceLemmas.{cut_lines-line, one-piece, but_last-append, but_empty_last-append, lines_of-last, lines_of-long}
 
 -- what was read of known input, and what is left
@@ -99,7 +101,7 @@ module _ (input : List ℕ) (left : Option (List ℕ)) (first : List (List ℕ))
       walked-kept faults.OutOfMemory rest long = tt
       walked-kept faults.Bad rest long =
           let next = lines_of-long old.unread known.0 one (long refl) in
-          record { line = next.0; others = next.1; lines = lines-fed known.0 known.2 ∙ ap (λ (t : List (List ℕ)). first ++ t) next.3; bad = next.2; number_is = omega (arith, w.number) }
+          inl (record { line = next.0; others = next.1; lines = lines-fed known.0 known.2 ∙ ap (λ (t : List (List ℕ)). first ++ t) next.3; bad = next.2 (stage_after AtStart first); number_is = omega (arith, w.number) })
 
       -- the input is at its end
       module _ (rest : Option (List ℕ)) (c : Consumes left rest []) (end : IsAtEnd rest) where
@@ -133,9 +135,21 @@ module _ (input : List ℕ) (left : Option (List ℕ)) (first : List (List ℕ))
 
 -- the line that the walk came to is not good, or there is no memory for it
 pub walked-bad : (input : List ℕ) (left : Option (List ℕ)) (first : List (List ℕ)) (place : Place) → HasWalked input left (first ++ place.line ∷ []) place.walk → (fault : LineFault) (rest : Option (List ℕ))
-    → (fault ≡ faults.Bad → line_of place.line ≡ Bad) → IsHalt (halt_at place.walk.number fault) input first rest
+    → (fault ≡ faults.Bad → line_of (stage_after AtStart first) place.line ≡ Bad) → IsHalt (halt_at place.walk.number fault) input first rest
 walked-bad input left first place w faults.OutOfMemory rest bad = tt
 walked-bad input left first place w faults.Bad rest bad =
     let all = walked-lines input left (first ++ place.line ∷ []) place.walk w in
     let longer = length-append first (place.line ∷ []) in
-    record { line = place.line; others = all.0; lines = all.1 ∙ append_assoc first (place.line ∷ []) all.0; bad = bad refl; number_is = omega (arith, w.number, longer) }
+    inl (record { line = place.line; others = all.0; lines = all.1 ∙ append_assoc first (place.line ∷ []) all.0; bad = bad refl; number_is = omega (arith, w.number, longer) })
+
+-- all lines were gone through, and the end is judged
+pub end-fills : (input : List ℕ) (first : List (List ℕ)) (left : Option (List ℕ)) (walk : Walk) (stage : Stage) (number : ℕ) (result : Result Bool InputFault) → lines_of input ≡ first → number ≡ length first
+    → stage ≡ stage_after AtStart first → result ≡ end_at stage number → FillsOrEnds result input first left walk
+end-fills input first left walk stage number result all counted goes is =
+    let there : result ≡ ended_by (bad_end (stage_after AtStart first) (length first)) =
+    is ∙ ap (λ (s : Stage). end_at s number) goes ∙ ap (end_at (stage_after AtStart first)) counted in
+    subst (λ (r : Result Bool InputFault). FillsOrEnds r input first left walk) (sym there) (by (bad_end (stage_after AtStart first) (length first)) refl)
+  where
+    by : (o : Option ℕ) → bad_end (stage_after AtStart first) (length first) ≡ o → FillsOrEnds (ended_by o) input first left walk
+    by None e = (all, e)
+    by (Some n) e = inr (record { all = all; bad = e })

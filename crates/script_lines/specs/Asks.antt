@@ -1,23 +1,57 @@
--- What the two readers of a line share: who asks in it, and the call that is asked for.
-use Rattle.std.specs.Prelude.{◌≡◌, ℕ, List, Option, Some, None, Result, Ok, Err, IsSome}
+-- Who asks in a line, the call that is asked for, and what is to be done at a line.
+use Rattle.std.specs.Prelude.{◌≡◌, ◌<◌, ℕ, Bool, true, false, List, map, Option, Some, None, Result, Ok, Err, IsSome, IsTrue}
 use Rattle.std.specs.Borrow.{Bor}
 use Rattle.cvl_text.specs.declared.call.Call.{Call}
 use Rattle.cvl_text.specs.Tasks.{Task, task_of}
 use Rattle.cvl_text.specs.Words.{words_of}
-use Rattle.cvl_text.specs.Lines.{task_in}
+use Rattle.call_history.specs.declared.request.Job.{Job}
+use Rattle.call_history.specs.declared.request.Job.TheVariants as jobs
+use Rattle.call_history.specs.Callers.{caller_limit}
+use Rattle.call_history.specs.Fits.{IsLawfulJob}
 use Rattle.script_lines.specs.declared.line.LineFault.{LineFault}
 use Rattle.script_lines.specs.declared.line.LineFault.TheVariants as faults
-use Rattle.script_lines.specs.Scripts.{Line, Skipped, Bad, asked}
+use Rattle.script_lines.specs.declared.deed.Deed.{Deed}
+use Rattle.script_lines.specs.declared.deed.Deed.TheVariants as deeds
+use Rattle.script_lines.specs.Scripts.{Stage, Line, Skipped, Bad, Heads, Asks, Opens, Adds, Closes, plain_line, said}
 
--- The caller that asks in this line, and the text of what it asks for; None where the line is skipped.
-abbrev pub IsAsk : Result (Option (ℕ × Bor (List ℕ))) LineFault → Line → Type 0
-IsAsk (Ok None) line = line ≡ Skipped
-IsAsk (Ok (Some ask)) line = line ≡ asked (Some ask.0) (task_in (words_of ask.1.now))
-IsAsk (Err faults.Bad) line = line ≡ Bad
-IsAsk (Err faults.OutOfMemory) line = ⊥
+-- At each stage, where the line is no head: the caller that speaks in it, and the text of what it says; None where the line is skipped.
+abbrev pub IsAsk : Result (Option (ℕ × Bor (List ℕ))) LineFault → List ℕ → Type 0
+IsAsk (Ok None) text = (stage : Stage) → plain_line stage text ≡ Skipped
+IsAsk (Ok (Some ask)) text = (stage : Stage) → plain_line stage text ≡ said stage ask.0 (words_of ask.1.now)
+IsAsk (Err faults.Bad) text = (stage : Stage) → plain_line stage text ≡ Bad
+IsAsk (Err faults.OutOfMemory) text = ⊥
 
 -- The call that a text asks for.
 abbrev pub IsCallOf : Result Call LineFault → Option Task → Type 0
-IsCallOf (Ok call) said = said ≡ Some (task_of call)
-IsCallOf (Err faults.Bad) said = said ≡ None
-IsCallOf (Err faults.OutOfMemory) said = IsSome said
+IsCallOf (Ok call) asked = asked ≡ Some (task_of call)
+IsCallOf (Err faults.Bad) asked = asked ≡ None
+IsCallOf (Err faults.OutOfMemory) asked = IsSome asked
+
+-- nothing is done at such a line but what it changes of the stage
+abbrev pub is_quiet : Line → Bool
+is_quiet Skipped = true
+is_quiet Bad = false
+is_quiet Heads = false
+is_quiet (Asks caller task) = false
+is_quiet (Opens caller) = true
+is_quiet (Adds task) = true
+is_quiet (Closes caller tasks) = false
+
+-- the line by which a caller asks for a job
+abbrev pub job_line : ℕ → Job → Line
+job_line caller (jobs.One call) = Asks caller (task_of call)
+job_line caller (jobs.Many calls) = Closes caller (map task_of calls.items)
+
+-- what is to be done at a line
+abbrev pub IsDeed : Result Deed LineFault → Line → Type 0
+IsDeed (Ok deeds.Nothing) line = IsTrue (is_quiet line)
+IsDeed (Ok deeds.Renews) line = line ≡ Heads
+IsDeed (Ok (deeds.Does caller job)) line = line ≡ job_line caller job
+IsDeed (Err faults.Bad) line = line ≡ Bad
+IsDeed (Err faults.OutOfMemory) line = Unit {0}
+
+-- a caller that there may be does a job that can be done
+abbrev pub IsLawfulDeed : Deed → Type 0
+IsLawfulDeed deeds.Nothing = Unit {0}
+IsLawfulDeed deeds.Renews = Unit {0}
+IsLawfulDeed (deeds.Does caller job) = (caller < caller_limit) × IsLawfulJob job

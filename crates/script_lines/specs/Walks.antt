@@ -1,5 +1,5 @@
 -- How the lines of an input are gone through, one after the other.
-use Rattle.std.specs.Prelude.{◌≡◌, ◌+◌, ◌++◌, ◌<◌, ◌≤◌, ◌^◌, ℕ, Bool, true, false, List, [], ◌∷◌, length, Option, Some, Result, Ok, Err}
+use Rattle.std.specs.Prelude.{◌≡◌, ◌+◌, ◌++◌, ◌<◌, ◌≤◌, ◌^◌, ◌⊎◌, ℕ, Bool, true, false, List, [], ◌∷◌, length, Option, Some, None, Result, Ok, Err}
 use Rattle.std.specs.Io.KnownBytes.{prepend_known}
 use Rattle.script_lines.specs.declared.fault.InputFault.{InputFault}
 use Rattle.script_lines.specs.declared.fault.InputFault.TheVariants as halts
@@ -7,7 +7,7 @@ use Rattle.script_lines.specs.declared.line.LineFault.{LineFault}
 use Rattle.script_lines.specs.declared.line.LineFault.TheVariants as faults
 use Rattle.script_lines.specs.declared.fault.RunFault.{RunFault}
 use Rattle.script_lines.specs.declared.fault.RunFault.TheVariants as stops
-use Rattle.script_lines.specs.Scripts.{Bad, IsOneLine, line_of, cut_lines, lines_of, whole_lines}
+use Rattle.script_lines.specs.Scripts.{AtStart, Bad, IsOneLine, line_of, stage_after, bad_end, cut_lines, lines_of, whole_lines}
 
 -- a block that was read: a line of it, and the rest behind that line
 pub record Cut : Type 0 where
@@ -69,8 +69,13 @@ pub record IsBadNext (input : List ℕ) (first : List (List ℕ)) (number : ℕ)
   pub line : List ℕ
   pub others : List (List ℕ)
   pub lines : lines_of input ≡ first ++ line ∷ others
-  pub bad : line_of line ≡ Bad
+  pub bad : line_of (stage_after AtStart first) line ≡ Bad
   pub number_is : number ≡ length first + 1
+
+-- these are all lines, and the end behind them is bad, since a block is open there
+pub record IsOpenEnd (input : List ℕ) (first : List (List ℕ)) (number : ℕ) : Type 0 where
+  pub all : lines_of input ≡ first
+  pub bad : bad_end (stage_after AtStart first) (length first) ≡ Some number
 
 -- the input was read up to here, and these are its whole lines
 pub record IsReadUpTo (input : List ℕ) (first : List (List ℕ)) (left : Option (List ℕ)) : Type 0 where
@@ -82,7 +87,7 @@ pub record IsReadUpTo (input : List ℕ) (first : List (List ℕ)) (left : Optio
 
 -- why an input is not gone through to its end
 abbrev pub IsHalt : InputFault → List ℕ → List (List ℕ) → Option (List ℕ) → Type 0
-IsHalt (halts.BadLine number) input first left = IsBadNext input first number
+IsHalt (halts.BadLine number) input first left = IsBadNext input first number ⊎ IsOpenEnd input first number
 IsHalt halts.OutOfMemory input first left = Unit {0}
 IsHalt halts.Read input first left = IsReadUpTo input first left
 
@@ -91,6 +96,12 @@ abbrev pub Fills : Result Bool InputFault → List ℕ → List (List ℕ) → O
 Fills (Ok true) input first left walk = HasWalked input left first walk
 Fills (Ok false) input first left walk = lines_of input ≡ first
 Fills (Err fault) input first left walk = IsHalt fault input first left
+
+-- the same where the end is judged as well: no block is open there
+abbrev pub FillsOrEnds : Result Bool InputFault → List ℕ → List (List ℕ) → Option (List ℕ) → Walk → Type 0
+FillsOrEnds (Ok true) input first left walk = HasWalked input left first walk
+FillsOrEnds (Ok false) input first left walk = (lines_of input ≡ first) × (bad_end (stage_after AtStart first) (length first) ≡ None)
+FillsOrEnds (Err fault) input first left walk = IsHalt fault input first left
 
 -- the fault of an input at a line of this number
 abbrev pub halt_at : ℕ → LineFault → InputFault

@@ -119,6 +119,13 @@ impl Lines {
         }
     }
 
+    /// How many lines were gone to.
+    pub(crate) fn number(&self) -> u64
+        ensures { result ≡ self.now.walk.number }
+    {
+        self.number
+    }
+
     /// Why the line is not gone through.
     pub(crate) fn halt(&self, fault: LineFault) -> InputFault
         ensures { result ≡ halt_at self.now.walk.number fault }
@@ -148,6 +155,7 @@ impl Lines {
         ensures fills { (input : List ℕ) (first : List (List ℕ)) → HasWalked input (R.rest reader.old) first self.old.walk
             → Fills result input first (R.rest reader.new) self.new.walk }
         ensures goes_on { result ≡ Ok true → GoesOn self.old.walk (R.limit reader.old) self.new.walk (R.limit reader.new) }
+        ensures number { self.new.walk.number ≡ self.old.walk.number }
         ensures counted { CountsReads result (R.failures reader.old) (R.failures reader.new) }
         ensures readable { OnOk result (R.can_read reader.new) }
     {

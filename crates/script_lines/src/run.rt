@@ -1,27 +1,32 @@
 //! A script under way: the book of the lines that are served, and the replies that are not written yet.
 
 ghost use Rattle.std.specs.Prelude.{[], true, ◌≡◌, ◌<◌, ◌≤◌, ◌^◌, ℕ, List, Option, Ok, Err, OnOk, OnErr, IfOk};
-ghost use Rattle.vector_memory.specs.States.{State, IsLawfulRoom, empty};
+ghost use Rattle.vector_memory.specs.States.{State, IsLawfulRoom, bounds_in, empty};
 ghost use Rattle.call_history.specs.Books.{memory_of};
-ghost use Rattle.script_lines.specs.Scripts.{IsOneLine, bad_text};
+ghost use Rattle.script_lines.specs.Scripts.{AtStart, IsOneLine, bad_text};
+ghost use Rattle.script_lines.specs.Stages.{stage_of};
 ghost use Rattle.script_lines.specs.Streams.{Awaits, HasBegun};
 ghost use Rattle.script_lines.specs.Walks.{GoesOn, IsCountable};
 ghost use Rattle.script_lines.specs.Runs.{ServesOn, StandsAt, HasEnded, Steps, CountsFailures, UnlessWrite, Runs, IsCounted};
 
+use crate::ending::read_more;
 use crate::fault::{InputFault, RunFault, ServeFault};
 use crate::gather::{GATHERED, flush};
-use crate::line::serve_line;
 use crate::lines::Lines;
+use crate::progress::Progress;
+use crate::serve::serve_line;
 use crate::streams::{Failed, Sink, Source, write_all};
 use call_history::Book;
 use scan_kernels::Execution;
 use segment_desc::OutOfMemory;
 use std::alloc::Global;
+use vector_memory::Edition;
 
 /// A script under way on one book.
 #[derive(Drop)]
 pub struct Run {
     pub book: Book,
+    pub progress: Progress,
     /// The replies that are not written yet.
     pub waiting: Vec<u8>,
 }
@@ -43,11 +48,13 @@ impl Run {
     /// A run that has served nothing.
     pub fn new(alloc: Global, room: u64) -> Result<Run, OutOfMemory>
         requires { IsLawfulRoom room }
-        ensures memory { IfOk result (λ run. memory_of run.book ≡ empty room) }
+        ensures memory { IfOk result (λ run. memory_of run.book ≡ empty (bounds_in Edition.One room)) }
+        ensures start { IfOk result (λ run. stage_of run.progress ≡ AtStart) }
         ensures waiting { IfOk result (λ run. run.waiting.items ≡ []) }
     {
         Ok(Run {
             book: Book::new(alloc, room)?,
+            progress: Progress::AtStart,
             waiting: Vec::new(alloc),
         })
     }
@@ -62,8 +69,8 @@ impl Run {
     ) -> Result<bool, ServeFault>
         requires { W.can_write writer.old }
         ensures steps { (m : State) (input : List ℕ) (left old : Option (List ℕ))
-            → StandsAt m input left old (W.written writer.old) lines.now (memory_of self.old.book) self.old.waiting.items
-            → Steps result m input left old (W.written writer.new) lines.now.walk (memory_of self.new.book) self.new.waiting.items }
+            → StandsAt m input left old (W.written writer.old) lines.now (memory_of self.old.book) (stage_of self.old.progress) self.old.waiting.items
+            → Steps result m input left old (W.written writer.new) lines.now.walk (memory_of self.new.book) (stage_of self.new.progress) self.new.waiting.items }
         ensures counted { (reads : ℕ) → CountsFailures result reads reads (W.failures writer.old) (W.failures writer.new) }
         ensures writable { UnlessWrite result (W.can_write writer.new) }
     {
@@ -71,6 +78,7 @@ impl Run {
             execution,
             alloc,
             &mut self.book,
+            &mut self.progress,
             &mut self.waiting,
             lines.current(),
         );
@@ -98,8 +106,8 @@ impl Run {
         requires readable { R.can_read reader.old }
         requires writable { W.can_write writer.old }
         ensures steps { (m : State) (input : List ℕ) (old : Option (List ℕ))
-            → ServesOn m input (R.rest reader.old) old (W.written writer.old) lines.old.walk (memory_of self.old.book) self.old.waiting.items
-            → Steps result m input (R.rest reader.new) old (W.written writer.new) lines.new.walk (memory_of self.new.book) self.new.waiting.items }
+            → ServesOn m input (R.rest reader.old) old (W.written writer.old) lines.old.walk (memory_of self.old.book) (stage_of self.old.progress) self.old.waiting.items
+            → Steps result m input (R.rest reader.new) old (W.written writer.new) lines.new.walk (memory_of self.new.book) (stage_of self.new.progress) self.new.waiting.items }
         ensures goes_on { result ≡ Ok true → GoesOn lines.old.walk (R.limit reader.old) lines.new.walk (R.limit reader.new) }
         ensures counted { CountsFailures result (R.failures reader.old) (R.failures reader.new) (W.failures writer.old) (W.failures writer.new) }
         ensures readable { OnOk result (R.can_read reader.new) }
@@ -109,7 +117,7 @@ impl Run {
         let Ok(()) = flush(&mut self.waiting, writer) else {
             return Err(ServeFault::Write);
         };
-        match lines.fill(reader) {
+        match read_more(&self.progress, lines, reader) {
             Ok(more) => Ok(more),
             Err(halt) => Err(ServeFault::Input(halt)),
         }
@@ -128,8 +136,8 @@ impl Run {
         requires readable { R.can_read reader.old }
         requires writable { W.can_write writer.old }
         ensures steps { (m : State) (input : List ℕ) (old : Option (List ℕ))
-            → ServesOn m input (R.rest reader.old) old (W.written writer.old) lines.old.walk (memory_of self.old.book) self.old.waiting.items
-            → Steps result m input (R.rest reader.new) old (W.written writer.new) lines.new.walk (memory_of self.new.book) self.new.waiting.items }
+            → ServesOn m input (R.rest reader.old) old (W.written writer.old) lines.old.walk (memory_of self.old.book) (stage_of self.old.progress) self.old.waiting.items
+            → Steps result m input (R.rest reader.new) old (W.written writer.new) lines.new.walk (memory_of self.new.book) (stage_of self.new.progress) self.new.waiting.items }
         ensures goes_on { result ≡ Ok true → GoesOn lines.old.walk (R.limit reader.old) lines.new.walk (R.limit reader.new) }
         ensures counted { CountsFailures result (R.failures reader.old) (R.failures reader.new) (W.failures writer.old) (W.failures writer.new) }
         ensures readable { OnOk result (R.can_read reader.new) }

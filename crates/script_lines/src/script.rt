@@ -1,29 +1,45 @@
-//! A script as the calls of its callers.
+//! A script as the jobs of its callers.
 
 ghost use Rattle.std.specs.Prelude.{◌≡◌, ◌<◌, ◌≤◌, ℕ, Err, IfOk, IfSome, vec_len};
 ghost use Rattle.call_history.specs.Callers.{caller_limit};
-ghost use Rattle.script_lines.specs.Readings.{IsRead};
+ghost use Rattle.script_lines.specs.Readings.{lists_of, AreLawful, IsRead};
 
 use crate::fault::RunFault;
+use crate::progress::Progress;
 use crate::reading::read_input;
+use crate::step::edition_at;
 use crate::streams::Source;
-use cvl_text::Call;
+use call_history::Job;
 use std::alloc::Global;
+use vector_memory::Edition;
 
-/// Reads a script: for each caller from 0 up to the greatest that occurs its calls, in the order of the script.
+/// A script that was read.
+#[derive(Debug, Drop)]
+pub struct Script {
+    pub edition: Edition,
+    /// The jobs of each caller, from 0 up to the greatest that occurs, in the order of the script.
+    pub workers: Vec<Vec<Job>>,
+}
+
+/// Reads a script: its edition, and for each caller from 0 up to the greatest that occurs its jobs, in the order of the script.
 ///
 /// It ends at the first bad line, for want of memory, and where a read fails; `IsRead` says what was read then.
-pub fn read_script<R: Source>(alloc: Global, reader: &mut R) -> Result<Vec<Vec<Call>>, RunFault>
+pub fn read_script<R: Source>(alloc: Global, reader: &mut R) -> Result<Script, RunFault>
     requires { R.can_read reader.old }
     ensures read { IfSome (R.rest reader.old) (λ input. IsRead result input (R.rest reader.new)) }
-    ensures few { IfOk result (λ calls. vec_len calls ≤ caller_limit) }
+    ensures lawful { IfOk result (λ script. AreLawful (lists_of script.workers)) }
+    ensures few { IfOk result (λ script. vec_len script.workers ≤ caller_limit) }
     ensures failed { result ≡ Err RunFault.Read → R.failures reader.old < R.failures reader.new }
     ensures unwritten { result ≡ Err RunFault.Write → ⊥ }
     ensures unstopped { (worker : ℕ) → result ≡ Err (RunFault.Stopped worker) → ⊥ }
 {
-    let mut calls = Vec::new(alloc);
-    match read_input(alloc, &mut calls, reader) {
-        Ok(()) => Ok(calls),
+    let mut workers = Vec::new(alloc);
+    let mut progress = Progress::AtStart;
+    match read_input(alloc, &mut workers, &mut progress, reader) {
+        Ok(()) => Ok(Script {
+            edition: edition_at(&progress),
+            workers,
+        }),
         Err(fault) => Err(RunFault::from(fault)),
     }
 }

@@ -1,8 +1,10 @@
 //! A script on one book.
 
 ghost use Rattle.std.specs.Prelude.{[], ◌≡◌, IfSome};
-ghost use Rattle.vector_memory.specs.States.{IsLawfulRoom, empty};
+ghost use Rattle.vector_memory.specs.States.{IsLawfulRoom, bounds_in, empty};
 ghost use Rattle.call_history.specs.Books.{memory_of};
+ghost use Rattle.script_lines.specs.Scripts.{AtStart};
+ghost use Rattle.script_lines.specs.Stages.{stage_of};
 ghost use Rattle.script_lines.specs.Runs.{HasEnded, CountsFailures, UnlessWrite, Runs, IsCounted};
 
 use crate::fault::{InputFault, RunFault, ServeFault};
@@ -11,6 +13,7 @@ use crate::run::Run;
 use crate::streams::{Sink, Source};
 use scan_kernels::Execution;
 use std::alloc::Global;
+use vector_memory::Edition;
 
 /// Serves each line of an input, and writes the replies to what was read before more is read.
 fn serve_input<R: Source, W: Sink>(
@@ -20,6 +23,7 @@ fn serve_input<R: Source, W: Sink>(
     reader: &mut R,
     writer: &mut W,
 ) -> Result<(), ServeFault>
+    requires start { stage_of run.old.progress ≡ AtStart }
     requires waiting { run.old.waiting.items ≡ [] }
     requires readable { R.can_read reader.old }
     requires writable { W.can_write writer.old }
@@ -43,6 +47,7 @@ pub fn run_script<R: Source, W: Sink>(
     reader: &mut R,
     writer: &mut W,
 ) -> Result<(), RunFault>
+    requires start { stage_of run.old.progress ≡ AtStart }
     requires waiting { run.old.waiting.items ≡ [] }
     requires readable { R.can_read reader.old }
     requires writable { W.can_write writer.old }
@@ -55,7 +60,8 @@ pub fn run_script<R: Source, W: Sink>(
     run.finish(ended, writer)
 }
 
-/// Runs a script on one book, whose memory has this room, and writes the reply to each line that is not skipped.
+/// Runs a script on one book, whose memory has this room and the edition that the script is of, and writes the reply to each
+/// call. A block runs at the line that closes it.
 ///
 /// The replies to all lines that were read are written before more is read. It ends at the first bad line, for want of
 /// memory, and where a read or a write fails; `Runs` says what is written then.
@@ -69,7 +75,7 @@ pub fn run_serial<R: Source, W: Sink>(
     requires room { IsLawfulRoom room }
     requires readable { R.can_read reader.old }
     requires writable { W.can_write writer.old }
-    ensures runs { IfSome (R.rest reader.old) (λ input. Runs result (empty room) input
+    ensures runs { IfSome (R.rest reader.old) (λ input. Runs result (empty (bounds_in Edition.One room)) input
         (R.rest reader.new) (W.written writer.old) (W.written writer.new)) }
     ensures counted { IsCounted result (R.failures reader.old) (R.failures reader.new)
         (W.failures writer.old) (W.failures writer.new) }

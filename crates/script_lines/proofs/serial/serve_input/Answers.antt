@@ -1,5 +1,6 @@
 use Rattle.std.proofs.Common.{refl}
 use Rattle.call_history.specs.Books.{memory_of}
+use Rattle.script_lines.specs.Stages.{stage_of}
 use Rattle.script_lines.proofs.WalkLemmas.{countable-start}
 use Rattle.script_lines.proofs.ServeLemmas.{served-start}
 use Rattle.script_lines.proofs.serial.serve_input.Goals as goal
@@ -13,5 +14,5 @@ loop-lines-init g c =
       writable = c.requires.writable;
       reads = refl;
       writes = refl;
-      serves = served-start (memory_of run.book) (g.R.Source.rest c.args.reader.now) (g.W.Sink.written c.args.writer.now) c.in-Ok.lines.walk run.waiting.items c.in-Ok.ensures c.requires.waiting;
+      serves = served-start (memory_of run.book) (stage_of run.progress) (g.R.Source.rest c.args.reader.now) (g.W.Sink.written c.args.writer.now) c.in-Ok.lines.walk run.waiting.items c.in-Ok.ensures c.requires.start c.requires.waiting;
     }

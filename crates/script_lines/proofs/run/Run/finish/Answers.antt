@@ -10,4 +10,4 @@ returns-in-Err-clause-runs g c = λ m input left old s.
     let now = g.W.Sink.written c.args.writer.now in
     let waiting = c.args.self.now.waiting.items in
     let ended = subst (λ (r : Result (Unit {0}) ServeFault). HasEnded r m input left old now waiting) c.in-Ok.is s in
-    HasBegun-done old now (g.W.Sink.written c.flush.new.writer) waiting (text_of m 0 input) ended.1 c.in-Err.ensures.begun
+    HasBegun-done old now (g.W.Sink.written c.flush.new.writer) waiting (text_of m input) ended.1 c.in-Err.ensures.begun

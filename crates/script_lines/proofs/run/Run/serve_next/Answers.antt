@@ -1,6 +1,7 @@
 use Rattle.std.proofs.Common.{Bool, subst}
 use Rattle.call_history.specs.Books.{memory_of}
 use Rattle.script_lines.specs.declared.fault.InputFault.TheVariants as halts
+use Rattle.script_lines.specs.Stages.{stage_of}
 use Rattle.script_lines.specs.Walks.{Advances}
 use Rattle.script_lines.proofs.WalkLemmas.{walked-lines, walked-next}
 use Rattle.script_lines.proofs.ServeLemmas.{ended-halt}
@@ -18,4 +19,4 @@ returns-in-Err-clause-steps g c = λ m input old s.
     let run = c.args.self.now in
     let left = g.R.Source.rest c.args.reader.now in
     let all = walked-lines input left s.first c.args.lines.now.walk s.walked in
-    ended-halt m input old (g.W.Sink.written c.args.writer.now) s.first (memory_of run.book) run.waiting.items s.served halts.OutOfMemory left all.0 all.1 tt
+    ended-halt m input old (g.W.Sink.written c.args.writer.now) s.first (memory_of run.book) (stage_of run.progress) run.waiting.items s.served halts.OutOfMemory left all.0 all.1 tt

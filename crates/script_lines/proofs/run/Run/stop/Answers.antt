@@ -1,7 +1,7 @@
 use Rattle.std.proofs.Common.{Err, subst}
 use Rattle.script_lines.specs.declared.fault.InputFault.{InputFault}
 use Rattle.script_lines.specs.declared.fault.ServeFault.TheVariants as ends
-use Rattle.script_lines.specs.Scripts.{text_from, whole_lines}
+use Rattle.script_lines.specs.Scripts.{AtStart, text_from, whole_lines}
 use Rattle.script_lines.specs.Runs.{HasEnded}
 use Rattle.script_lines.proofs.StreamLemmas.{Awaits-done}
 use Rattle.script_lines.proofs.ServeLemmas.{unwritten}
@@ -16,4 +16,4 @@ returns-in-Read-clause-runs g c = λ m input left old s.
     let now = g.W.Sink.written c.args.writer.now in
     let waiting = c.args.self.now.waiting.items in
     let ended = subst (λ (h : InputFault). HasEnded (Err (ends.Input h)) m input left old now waiting) c.in-Read.is s in
-    record { cut = ended.0; text = Awaits-done old now (g.W.Sink.written c.flush.new.writer) waiting (text_from m 0 (whole_lines ended.0.read)) ended.2 c.in-Ok.ensures.written }
+    record { cut = ended.0; text = Awaits-done old now (g.W.Sink.written c.flush.new.writer) waiting (text_from m AtStart (whole_lines ended.0.read)) ended.2 c.in-Ok.ensures.written }

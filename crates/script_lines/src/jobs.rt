@@ -1,0 +1,68 @@
+//! The jobs of a script, for each caller its own.
+
+ghost use Rattle.std.specs.Prelude.{◌≡◌, ◌<◌, ◌≤◌, ◌^◌, ℕ, ◌+◌, max, OnOk, IsTrue, IsErrOf, vec_len};
+ghost use Rattle.call_history.specs.Callers.{caller_limit};
+ghost use Rattle.script_lines.specs.Scripts.{Bad, line_of, is_good, stage_after_line};
+ghost use Rattle.script_lines.specs.Readings.{lists_of, jobs_at, AddsJob, AddsLine, AreLawful};
+ghost use Rattle.script_lines.specs.Stages.{stage_of};
+
+use crate::deed::Deed;
+use crate::line::LineFault;
+use crate::progress::Progress;
+use crate::step::step;
+use call_history::Job;
+use segment_desc::OutOfMemory;
+use std::alloc::Global;
+
+/// Makes lists without jobs until there are `count`.
+fn make_lists(alloc: Global, jobs: &mut Vec<Vec<Job>>, count: usize) -> Result<(), OutOfMemory>
+    ensures count { OnOk result (vec_len jobs.new ≡ max (vec_len jobs.old) count) }
+    ensures lists { OnOk result ((k : ℕ) → jobs_at k (lists_of jobs.new) ≡ jobs_at k (lists_of jobs.old)) }
+{
+    while jobs.len() < count {
+        let Ok(()) = jobs.push(Vec::new(alloc)) else {
+            return Err(OutOfMemory);
+        };
+    }
+    Ok(())
+}
+
+/// Adds a job behind those of its caller.
+fn add_job(
+    alloc: Global,
+    jobs: &mut Vec<Vec<Job>>,
+    caller: usize,
+    job: Job,
+) -> Result<(), OutOfMemory>
+    requires { caller + 1 < 2 ^ 64 }
+    ensures { OnOk result (AddsJob (lists_of jobs.old) (lists_of jobs.new) (Deed.Does caller job)) }
+{
+    make_lists(alloc, jobs, caller + 1)?;
+    jobs[caller].push(job)?;
+    Ok(())
+}
+
+/// Adds what a line asks for.
+pub(crate) fn read_line(
+    alloc: Global,
+    jobs: &mut Vec<Vec<Job>>,
+    progress: &mut Progress,
+    line: &[u8],
+) -> Result<(), LineFault>
+    ensures good { OnOk result (IsTrue (is_good (line_of (stage_of progress.old) line.now))) }
+    ensures adds { OnOk result (AddsLine (lists_of jobs.old) (lists_of jobs.new) (line_of (stage_of progress.old) line.now)) }
+    ensures stage { OnOk result (stage_of progress.new
+        ≡ stage_after_line (stage_of progress.old) (line_of (stage_of progress.old) line.now)) }
+    ensures bad { IsErrOf result LineFault.Bad → line_of (stage_of progress.old) line.now ≡ Bad }
+    ensures lawful { OnOk result (AreLawful (lists_of jobs.old) → AreLawful (lists_of jobs.new)) }
+    ensures few { OnOk result (vec_len jobs.old ≤ caller_limit → vec_len jobs.new ≤ caller_limit) }
+{
+    match step(alloc, progress, line)? {
+        Deed::Nothing => Ok(()),
+        Deed::Renews => Ok(()),
+        Deed::Does(caller, job) => match add_job(alloc, jobs, caller as usize, job) {
+            Ok(()) => Ok(()),
+            Err(OutOfMemory) => Err(LineFault::OutOfMemory),
+        },
+    }
+}
