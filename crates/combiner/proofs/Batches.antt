@@ -4,6 +4,7 @@
 use Rattle.std.proofs.Common.{◌≡◌, ◌≢◌, ◌⊎◌, inl, inr, ℕ, zero, suc, ◌+◌, ◌<◌, ◌≤◌, List, [], ◌∷◌, ◌++◌, length, map, None, sym, ap, ◌∙◌, subst, arith, length-append}
 use Rattle.std.proofs.lemmas.List.{length-map}
 use Rattle.std.specs.List.{AllByRecursion, AllPairs, slice_index_or}
+use Rattle.vector_memory.specs.declared.bounds.Bounds.{Bounds}
 use Rattle.cvl_text.specs.Tasks.{Task}
 use Rattle.call_history.specs.declared.entry.Entry.{Entry}
 use Rattle.call_history.specs.declared.request.Request.{Request}
@@ -40,7 +41,7 @@ waves_behind-few before (t ∷ ts) =
 wave_count-few : (rs : List Request) → wave_count rs ≤ length rs
 wave_count-few rs = omega (arith, waves_behind-few [] (map asked rs), length-map rs asked)
 
-pub few_waves : {room callers : ℕ} {before now : List Entry} {calls waves kernels : ℕ} → ServesBatch room callers before now calls waves kernels → waves ≤ calls
+pub few_waves : {bounds : Bounds} {callers : ℕ} {before now : List Entry} {calls waves kernels : ℕ} → ServesBatch bounds callers before now calls waves kernels → waves ≤ calls
 few_waves {now = now} {calls = calls} {waves = waves} {kernels = kernels} b = go b.waves_are
   where
     go : (waves ≡ wave_count b.requests) ⊎ ((waves ≡ 0) × (kernels ≡ 0) × (now ≡ b.line) × (b.outcomes ≡ map returned b.requests)) → waves ≤ calls
@@ -48,12 +49,12 @@ few_waves {now = now} {calls = calls} {waves = waves} {kernels = kernels} b = go
     go (inr none) = omega (arith, none.0)
 
 -- what a run of the batch says, where the history that it led to is the one that has been seen
-pub pass_batch : (room callers calls : ℕ) (before line book now : List Entry) (requests : List Request) (outcomes : List Outcome) (ran nothing : Ran) → nothing.waves ≡ 0 → nothing.kernels ≡ 0 → Begins before line → now ≡ book → length requests ≡ calls
-    → IsDistinct requests → AllByRecursion (λ r. r.caller < callers) requests → ServesInOrder room line requests book outcomes
+pub pass_batch : (bounds : Bounds) (callers calls : ℕ) (before line book now : List Entry) (requests : List Request) (outcomes : List Outcome) (ran nothing : Ran) → nothing.waves ≡ 0 → nothing.kernels ≡ 0 → Begins before line → now ≡ book → length requests ≡ calls
+    → IsDistinct requests → AllByRecursion (λ r. r.caller < callers) requests → ServesInOrder bounds line requests book outcomes
     → (ran.waves ≡ wave_count requests) ⊎ ((ran ≡ nothing) × (book ≡ line) × (outcomes ≡ map returned requests))
     → (0 < ran.waves → AnswersAllSure requests outcomes) → ran.kernels ≤ kernel_bound requests + ran.singles → ran.singles ≤ length requests
-    → ServesBatch room callers before now calls ran.waves ran.kernels
-pass_batch room callers calls before line book now requests outcomes ran nothing no_waves no_kernels begins seen counted distinct inside serves waves sure bound few = record {
+    → ServesBatch bounds callers before now calls ran.waves ran.kernels
+pass_batch bounds callers calls before line book now requests outcomes ran nothing no_waves no_kernels begins seen counted distinct inside serves waves sure bound few = record {
   line = line;
   requests = requests;
   outcomes = outcomes;
@@ -62,7 +63,7 @@ pass_batch room callers calls before line book now requests outcomes ran nothing
   counted = counted;
   distinct = distinct;
   inside = inside;
-  serves = subst (λ (l : List Entry). ServesInOrder room line requests l outcomes) (sym seen) serves;
+  serves = subst (λ (l : List Entry). ServesInOrder bounds line requests l outcomes) (sym seen) serves;
   waves_are = go waves;
   sure = sure;
   bound = bound;

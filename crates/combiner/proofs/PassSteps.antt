@@ -126,15 +126,15 @@ taking_here before now i requests numbers t = record {
 
 -- the desk, once all words were tried
 pub desk_ready : (callers : ℕ) (c k : Known) (line : List Entry) (d : Desk) (requests : List Request) (numbers : List ℕ) → Taking c k callers requests numbers → c.standing.number < callers → c.standing.held ≡ true
-    → Begins c.standing.seen line → (pass_in c).line ≡ line → d.requests.items ≡ requests → d.book.history ≡ line → d.book.room ≡ c.standing.room → d.outcomes.items ≡ [] → callers ≤ vec_capacity d.requests
+    → Begins c.standing.seen line → (pass_in c).line ≡ line → d.requests.items ≡ requests → d.book.history ≡ line → d.book.bounds ≡ c.standing.bounds → d.outcomes.items ≡ [] → callers ≤ vec_capacity d.requests
     → callers ≤ vec_capacity d.outcomes → IsReadyDesk callers k numbers d
-desk_ready callers c k line d requests numbers t inside held saw had taken_are history_is room_is none first second = record {
+desk_ready callers c k line d requests numbers t inside held saw had taken_are history_is bounds_is none first second = record {
   taken = subst (λ (rs : List Request). Taking k k callers rs numbers) (sym taken_are) (taking_here c k callers requests numbers t);
   inside = subst (λ (z : Known). z.standing.number < callers) (sym t.now_is) inside;
   held = ap (λ (z : Known). z.standing.held) t.now_is ∙ held;
   begins = subst (λ (z : Known). Begins z.standing.seen d.book.history) (sym t.now_is) (subst (Begins c.standing.seen) (sym history_is) saw);
   line_is = history_is ∙ (sym had ∙ sym t.line_is);
-  room_is = room_is ∙ sym (ap (λ (z : Known). z.standing.room) t.now_is);
+  bounds_is = bounds_is ∙ sym (ap (λ (z : Known). z.standing.bounds) t.now_is);
   no_outcomes = none;
   request_spaces = first;
   outcome_spaces = second;

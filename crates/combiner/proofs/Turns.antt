@@ -3,6 +3,7 @@
 -- and `waiting_given_back` are the turns of `wait`.
 use Rattle.std.specs.Global.{Vec}
 use Rattle.std.proofs.Common.{◌≡◌, ℕ, ◌+◌, Bool, true, false, not, List, [], ◌∷◌, ◌++◌, length, map, append-nil, append_assoc, refl, sym, ap, ◌∙◌, subst}
+use Rattle.vector_memory.specs.declared.bounds.Bounds.{Bounds}
 use Rattle.cvl_text.specs.declared.call.Call.{Call}
 use Rattle.cvl_text.specs.declared.reply.Reply.{Reply}
 use Rattle.cvl_text.specs.Answers.{answer_of}
@@ -23,10 +24,10 @@ use Rattle.combiner.specs.declared.answers.Polled.{Polled}
 use Rattle.combiner.specs.declared.answers.Polled.TheVariants as poll
 use Rattle.combiner.specs.declared.answers.Combined.{Combined}
 use Rattle.combiner.specs.declared.answers.Combined.TheVariants as combine
-use Rattle.combiner.specs.Standing.{Standing, IsIdle, HasLeft, HasLeftACall, HasLeftBlock, HasLeftJob}
-use Rattle.combiner.specs.Cases.{IfAnswered, IfBack, IfBlockAnswered, IfBlockBack, OnBusy, OnServed, IfServed}
+use Rattle.combiner.specs.Standing.{Standing, IsIdle, HasLeft, HasLeftABlock, HasLeftACall, HasLeftBlock, HasLeftCall, HasLeftJob}
+use Rattle.combiner.specs.Cases.{is_told, IfAnswered, IfBack, IfBlockAnswered, IfBlockBack, OnBusy, OnIdle, OnServed, OnWaiting, IfServed}
 use Rattle.combiner.specs.Own.{KeepsCall, IsEnded}
-use Rattle.combiner.specs.Says.{leaving, meeting, serving, KeepsNotes, Continues, IsAnswered, IsBlockAnswered, IsAnsweredAtLast, IsWhatWasLeft, IsGivenBack, IsBlockGivenBack, MeetsAnother}
+use Rattle.combiner.specs.Says.{leaving, meeting, serving, KeepsNotes, Continues, IsAnswered, IsBlockAnswered, IsAnsweredAtLast, IsBlockAnsweredAtLast, IsBlockThatWasLeft, IsWhatWasLeft, IsGivenBack, IsBlockGivenBack, MeetsAnother}
 
 pub not_idle : (left idle : Bool) → idle ≡ not left → idle ≡ false → left ≡ true
 not_idle true idle is e = refl
@@ -81,7 +82,7 @@ collected_answers c d place reply left kind told =
       history = told.0;
       left = is_left c (One mine.0) left mine.1;
       ends_there = told.1 ∙ ap (λ (cs : List Call). place + length cs) calls;
-      answers = subst (λ (cs : List Call). Answers c.room (left_start c.phase) c.own c.number cs told.0 (answer_of reply ∷ [])) calls told.2;
+      answers = subst (λ (cs : List Call). Answers c.bounds (left_start c.phase) c.own c.number cs told.0 (answer_of reply ∷ [])) calls told.2;
       after = told.5 ∙ ap (λ (cs : List Call). answering_calls c cs told.0) calls;
       later = subst (Begins c.seen) (sym seen) told.3;
       whole = subst (Begins told.0) (sym seen) told.4;
@@ -100,7 +101,7 @@ collected_answers_block c d place replies left kind told =
       history = told.0;
       left = is_left c (Many mine.0) left mine.1;
       ends_there = told.1 ∙ ap (λ (cs : List Call). place + length cs) calls;
-      answers = subst (λ (cs : List Call). Answers c.room (left_start c.phase) c.own c.number cs told.0 (map answer_of replies.items)) calls told.2;
+      answers = subst (λ (cs : List Call). Answers c.bounds (left_start c.phase) c.own c.number cs told.0 (map answer_of replies.items)) calls told.2;
       after = told.5 ∙ ap (λ (cs : List Call). answering_calls c cs told.0) calls;
       later = subst (Begins c.seen) (sym seen) told.3;
       whole = subst (Begins told.0) (sym seen) told.4;
@@ -165,14 +166,14 @@ notes_served : (c d : Standing) (line : List Entry) (calls : ℕ) → d ≡ serv
 notes_served c d line calls is = subst (KeepsNotes c) (sym is) (λ _. refl, ([], sym (append-nil c.met)), (calls ∷ [], refl))
 
 pub waiting_begins : (c : Standing) → KeepsCall c c
-waiting_begins c = record { number = refl; room = refl; phase = refl; own = refl; later = begins_self c.seen; notes = notes_kept c c refl refl refl }
+waiting_begins c = record { number = refl; bounds = refl; phase = refl; own = refl; later = begins_self c.seen; notes = notes_kept c c refl refl refl }
 
 pub waiting_combines : (c d d' : Standing) (says : Combined) → KeepsCall c d → OnBusy says (MeetsAnother d d') → IfServed says (λ calls waves kernels. d' ≡ serving d d'.seen calls) → OnServed says (Begins d.seen d'.seen)
     → KeepsCall c d'
-waiting_combines c d d' combine.Busy w busy served later = subst (KeepsCall c) (sym busy.2) record { number = w.number; room = w.room; phase = w.phase; own = w.own; later = w.later; notes = notes_follow c d (meeting d busy.0) w.notes (notes_met d busy.0) }
+waiting_combines c d d' combine.Busy w busy served later = subst (KeepsCall c) (sym busy.2) record { number = w.number; bounds = w.bounds; phase = w.phase; own = w.own; later = w.later; notes = notes_follow c d (meeting d busy.0) w.notes (notes_met d busy.0) }
 waiting_combines c d d' (combine.Served calls waves kernels) w busy served later = record {
   number = ap (λ (z : Standing). z.number) served ∙ w.number;
-  room = ap (λ (z : Standing). z.room) served ∙ w.room;
+  bounds = ap (λ (z : Standing). z.bounds) served ∙ w.bounds;
   phase = ap (λ (z : Standing). z.phase) served ∙ w.phase;
   own = ap (λ (z : Standing). z.own) served ∙ w.own;
   later = begins_trans c.seen d.seen d'.seen w.later later;
@@ -182,18 +183,31 @@ waiting_combines c d d' (combine.Served calls waves kernels) w busy served later
 pub waiting_waits : (c d d' : Standing) → KeepsCall c d → d' ≡ d → KeepsCall c d'
 waiting_waits c d d' w is = subst (KeepsCall c) (sym is) w
 
-pub waiting_not_idle : (c d : Standing) → HasLeftACall c → KeepsCall c d → IsIdle d → ⊥
+waiting_not_idle : (c d : Standing) → HasLeft c → KeepsCall c d → IsIdle d → ⊥
 waiting_not_idle c d left w e = cc (left.2, w.phase, e)
+
+-- it goes on waiting where nothing is told
+pub waiting_still : (c d d' : Standing) (says : Polled) → HasLeft c → KeepsCall c d → is_told says ≡ false → OnIdle says (IsIdle d × (d' ≡ d)) → OnWaiting says (HasLeft d × (d' ≡ d)) → KeepsCall c d'
+waiting_still c d d' poll.Idle left w none idle waits = absurd (waiting_not_idle c d left w idle.0)
+waiting_still c d d' poll.Waiting left w none idle waits = waiting_waits c d d' w waits.1
+waiting_still c d d' (poll.Answered place reply) left w none idle waits = absurd (cc none)
+waiting_still c d d' (poll.OutOfMemory call) left w none idle waits = absurd (cc none)
+waiting_still c d d' (poll.AnsweredBlock place replies) left w none idle waits = absurd (cc none)
+waiting_still c d d' (poll.OutOfMemoryBlock calls) left w none idle waits = absurd (cc none)
 
 -- what it left is no block
 pub waiting_no_block : (c d : Standing) (calls : Vec Call) (start : List Entry) → HasLeftACall c → KeepsCall c d → HasLeftBlock d calls start → ⊥
 waiting_no_block c d calls start left w block = cc (left.2, w.phase, block)
 
+-- and here no single call
+pub waiting_no_call : (c d : Standing) (call : Call) (start : List Entry) → HasLeftABlock c → KeepsCall c d → HasLeftCall d call start → ⊥
+waiting_no_call c d call start left w one = cc (left.2, w.phase, one)
+
 pub waiting_answered : (c d d' : Standing) (place : ℕ) (reply : Reply) → KeepsCall c d → IsAnswered d d' place reply → IsEnded c d' × IsAnsweredAtLast c d' place reply
 waiting_answered c d d' place reply w a = (
   record {
     number = ap (λ (z : Standing). z.number) a.after ∙ w.number;
-    room = ap (λ (z : Standing). z.room) a.after ∙ w.room;
+    bounds = ap (λ (z : Standing). z.bounds) a.after ∙ w.bounds;
     idle = ap (λ (z : Standing). z.phase) a.after;
     later = begins_trans c.seen d.seen d'.seen w.later a.later;
     notes = notes_follow c d d' w.notes (notes_kept d d' (ap (λ (z : Standing). z.held) a.after) (ap (λ (z : Standing). z.met) a.after) (ap (λ (z : Standing). z.passes) a.after));
@@ -204,7 +218,7 @@ waiting_answered c d d' place reply w a = (
     history = a.history;
     left = sym w.phase ∙ a.left;
     ends_there = a.ends_there;
-    answers = subst (λ (z : ℕ × (List Call) × ℕ). Answers z.0 a.start z.1 z.2 (a.call ∷ []) a.history (answer_of reply ∷ [])) (λ i. (w.room i, w.own i, w.number i)) a.answers;
+    answers = subst (λ (z : Bounds × (List Call) × ℕ). Answers z.0 a.start z.1 z.2 (a.call ∷ []) a.history (answer_of reply ∷ [])) (λ i. (w.bounds i, w.own i, w.number i)) a.answers;
     whole = a.whole;
     record_is = ap (λ (z : Standing). z.own) a.after ∙ ap (λ (own : List Call). own ++ a.call ∷ []) w.own;
   },
@@ -214,13 +228,47 @@ pub waiting_given_back : (back : Call) (c d d' : Standing) → KeepsCall c d →
 waiting_given_back back c d d' w t = (
   record {
     number = ap (λ (z : Standing). z.number) t.2 ∙ w.number;
-    room = ap (λ (z : Standing). z.room) t.2 ∙ w.room;
+    bounds = ap (λ (z : Standing). z.bounds) t.2 ∙ w.bounds;
     idle = ap (λ (z : Standing). z.phase) t.2;
     later = subst (Begins c.seen) (sym (ap (λ (z : Standing). z.seen) t.2)) w.later;
     notes = notes_follow c d d' w.notes (notes_kept d d' (ap (λ (z : Standing). z.held) t.2) (ap (λ (z : Standing). z.met) t.2) (ap (λ (z : Standing). z.passes) t.2));
   },
   (t.0, sym w.phase ∙ t.1),
   ap (λ (z : Standing). z.own) t.2 ∙ w.own,
+)
+
+pub waiting_block_answered : (c d d' : Standing) (place : ℕ) (replies : Vec Reply) → KeepsCall c d → IsBlockAnswered d d' place replies → IsEnded c d' × IsBlockAnsweredAtLast c d' place replies
+waiting_block_answered c d d' place replies w a = (
+  record {
+    number = ap (λ (z : Standing). z.number) a.after ∙ w.number;
+    bounds = ap (λ (z : Standing). z.bounds) a.after ∙ w.bounds;
+    idle = ap (λ (z : Standing). z.phase) a.after;
+    later = begins_trans c.seen d.seen d'.seen w.later a.later;
+    notes = notes_follow c d d' w.notes (notes_kept d d' (ap (λ (z : Standing). z.held) a.after) (ap (λ (z : Standing). z.met) a.after) (ap (λ (z : Standing). z.passes) a.after));
+  },
+  record {
+    calls = a.calls;
+    start = a.start;
+    history = a.history;
+    left = sym w.phase ∙ a.left;
+    ends_there = a.ends_there;
+    answers = subst (λ (z : Bounds × (List Call) × ℕ). Answers z.0 a.start z.1 z.2 a.calls.items a.history (map answer_of replies.items)) (λ i. (w.bounds i, w.own i, w.number i)) a.answers;
+    whole = a.whole;
+    record_is = ap (λ (z : Standing). z.own) a.after ∙ ap (λ (own : List Call). own ++ a.calls.items) w.own;
+  },
+)
+
+pub waiting_block_back : (back : Vec Call) (c d d' : Standing) → KeepsCall c d → IsBlockGivenBack d d' back → IsEnded c d' × IsBlockThatWasLeft c back × (d'.own ≡ c.own)
+waiting_block_back back c d d' w t = (
+  record {
+    number = ap (λ (z : Standing). z.number) t.after ∙ w.number;
+    bounds = ap (λ (z : Standing). z.bounds) t.after ∙ w.bounds;
+    idle = ap (λ (z : Standing). z.phase) t.after;
+    later = subst (Begins c.seen) (sym (ap (λ (z : Standing). z.seen) t.after)) w.later;
+    notes = notes_follow c d d' w.notes (notes_kept d d' (ap (λ (z : Standing). z.held) t.after) (ap (λ (z : Standing). z.met) t.after) (ap (λ (z : Standing). z.passes) t.after));
+  },
+  (t.calls, t.start, sym w.phase ∙ t.left, t.back_is),
+  ap (λ (z : Standing). z.own) t.after ∙ w.own,
 )
 
 -- a caller that has left a call, and nothing since

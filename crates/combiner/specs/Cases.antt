@@ -1,6 +1,6 @@
 -- What holds where a call answered so: one word for each answer of `poll` and of `combine`. Of the other answers it says nothing.
 use Rattle.std.specs.Global.{Vec}
-use Rattle.std.specs.Prelude.{ℕ}
+use Rattle.std.specs.Prelude.{ℕ, Bool, true, false}
 use Rattle.cvl_text.specs.declared.call.Call.{Call}
 use Rattle.cvl_text.specs.declared.reply.Reply.{Reply}
 use Rattle.combiner.specs.declared.answers.Polled.{Polled}
@@ -59,6 +59,15 @@ IfBlockBack (poll.Answered place reply) fact = Unit {0}
 IfBlockBack (poll.OutOfMemory call) fact = Unit {0}
 IfBlockBack (poll.AnsweredBlock place replies) fact = Unit {0}
 IfBlockBack (poll.OutOfMemoryBlock calls) fact = fact calls
+
+-- whether it tells what became of what was left
+abbrev pub is_told : Polled → Bool
+is_told poll.Idle = false
+is_told poll.Waiting = false
+is_told (poll.Answered place reply) = true
+is_told (poll.OutOfMemory call) = true
+is_told (poll.AnsweredBlock place replies) = true
+is_told (poll.OutOfMemoryBlock calls) = true
 
 abbrev pub OnBusy : Combined → Type 0 → Type 0
 OnBusy combine.Busy fact = fact

@@ -11,7 +11,9 @@ use Rattle.call_history.specs.Answers.{Answers}
 use Rattle.request_slots.specs.declared.known.Known.{Known}
 use Rattle.request_slots.specs.Views.{entering_line}
 use Rattle.combiner.specs.Standing.{Standing, IsIdle}
-use Rattle.combiner.specs.Says.{Continues, KeepsNotes}
+use Rattle.combiner.specs.declared.answers.Polled.{Polled}
+use Rattle.combiner.specs.Cases.{is_told, IfAnswered, IfBack, IfBlockAnswered, IfBlockBack}
+use Rattle.combiner.specs.Says.{Continues, KeepsNotes, IsAnswered, IsGivenBack, IsBlockAnswered, IsBlockGivenBack}
 
 -- The call stands last in the history, at this place, and has this reply there. The history is the one committed, and answers the
 -- call to its caller.
@@ -19,7 +21,7 @@ pub record HasEntered (call : Call) (before now : Known) (place : ℕ) (reply : 
   pub line : List Entry
   pub now_is : now ≡ entering_line before line
   pub ends_there : length line ≡ place + 1
-  pub answers : Answers before.standing.room before.standing.seen before.standing.own before.standing.number (call ∷ []) line (answer_of reply ∷ [])
+  pub answers : Answers before.standing.bounds before.standing.seen before.standing.own before.standing.number (call ∷ []) line (answer_of reply ∷ [])
 
 -- The calls of a block stand last in the history, from this place on, and have these replies there. The history is the one
 -- committed, and answers the block to its caller.
@@ -27,21 +29,31 @@ pub record HasEnteredBlock (calls : List Call) (before now : Known) (place : ℕ
   pub line : List Entry
   pub now_is : now ≡ entering_line before line
   pub ends_there : length line ≡ place + length calls
-  pub answers : Answers before.standing.room before.standing.seen before.standing.own before.standing.number calls line replies
+  pub answers : Answers before.standing.bounds before.standing.seen before.standing.own before.standing.number calls line replies
 
 -- what a caller left and what was answered to it stay, and it sees no less
 pub record KeepsCall (c d : Standing) : Type 0 where
   pub number : d.number ≡ c.number
-  pub room : d.room ≡ c.room
+  pub bounds : d.bounds ≡ c.bounds
   pub phase : d.phase ≡ c.phase
   pub own : d.own ≡ c.own
   pub later : Begins c.seen d.seen
   pub notes : KeepsNotes c d
 
+-- What became of what a caller left, told at last: as `poll` tells it of a caller that has waited.
+pub record IsToldAtLast (c d : Standing) (says : Polled) : Type 0 where
+  pub waited : Standing
+  pub keeps : KeepsCall c waited
+  pub told : is_told says ≡ true
+  pub answered : IfAnswered says (IsAnswered waited d)
+  pub back : IfBack says (IsGivenBack waited d)
+  pub block_answered : IfBlockAnswered says (IsBlockAnswered waited d)
+  pub block_back : IfBlockBack says (IsBlockGivenBack waited d)
+
 -- where a call ends its caller is idle, and sees no less
 pub record IsEnded (c d : Standing) : Type 0 where
   pub number : d.number ≡ c.number
-  pub room : d.room ≡ c.room
+  pub bounds : d.bounds ≡ c.bounds
   pub idle : IsIdle d
   pub later : Begins c.seen d.seen
   pub notes : KeepsNotes c d

@@ -42,7 +42,7 @@ pub record IsReadyDesk (callers : ℕ) (c : Known) (numbers : List ℕ) (d : Des
   pub held : c.standing.held ≡ true
   pub begins : Begins c.standing.seen d.book.history
   pub line_is : d.book.history ≡ (pass_in c).line
-  pub room_is : d.book.room ≡ c.standing.room
+  pub bounds_is : d.book.bounds ≡ c.standing.bounds
   pub no_outcomes : d.outcomes.items ≡ []
   pub request_spaces : callers ≤ vec_capacity d.requests
   pub outcome_spaces : callers ≤ vec_capacity d.outcomes

@@ -26,7 +26,7 @@ pub record IsAnswered (c d : Standing) (place : ℕ) (reply : Reply) : Type 0 wh
   pub history : List Entry
   pub left : HasLeftCall c call start
   pub ends_there : length history ≡ place + 1
-  pub answers : Answers c.room start c.own c.number (call ∷ []) history (answer_of reply ∷ [])
+  pub answers : Answers c.bounds start c.own c.number (call ∷ []) history (answer_of reply ∷ [])
   pub after : d ≡ answering c call history
   pub later : Begins c.seen d.seen
   pub whole : Begins history d.seen
@@ -47,7 +47,7 @@ pub record IsBlockAnswered (c d : Standing) (place : ℕ) (replies : Vec Reply) 
   pub history : List Entry
   pub left : HasLeftBlock c calls start
   pub ends_there : length history ≡ place + length calls.items
-  pub answers : Answers c.room start c.own c.number calls.items history (map answer_of replies.items)
+  pub answers : Answers c.bounds start c.own c.number calls.items history (map answer_of replies.items)
   pub after : d ≡ answering_calls c calls.items history
   pub later : Begins c.seen d.seen
   pub whole : Begins history d.seen
@@ -63,19 +63,34 @@ pub record IsAnsweredAtLast (c d : Standing) (place : ℕ) (reply : Reply) : Typ
   pub history : List Entry
   pub left : HasLeftCall c call start
   pub ends_there : length history ≡ place + 1
-  pub answers : Answers c.room start c.own c.number (call ∷ []) history (answer_of reply ∷ [])
+  pub answers : Answers c.bounds start c.own c.number (call ∷ []) history (answer_of reply ∷ [])
   pub whole : Begins history d.seen
   pub record_is : d.own ≡ c.own ++ call ∷ []
+
+-- The block that was left was answered at last: as `IsBlockAnswered`, whatever its caller saw while it waited.
+pub record IsBlockAnsweredAtLast (c d : Standing) (place : ℕ) (replies : Vec Reply) : Type 0 where
+  pub calls : Vec Call
+  pub start : List Entry
+  pub history : List Entry
+  pub left : HasLeftBlock c calls start
+  pub ends_there : length history ≡ place + length calls.items
+  pub answers : Answers c.bounds start c.own c.number calls.items history (map answer_of replies.items)
+  pub whole : Begins history d.seen
+  pub record_is : d.own ≡ c.own ++ calls.items
 
 -- the call that was left is this one
 abbrev pub IsWhatWasLeft : Standing → Call → Type 0
 IsWhatWasLeft c call = (start : List Entry) × HasLeftCall c call start
 
+-- the calls of the block that was left are these
+abbrev pub IsBlockThatWasLeft : Standing → Vec Call → Type 0
+IsBlockThatWasLeft c back = (calls : Vec Call) × (start : List Entry) × HasLeftBlock c calls start × (back.items ≡ calls.items)
+
 -- This call was answered at once: as `IsAnswered`, with front and record as they were before the call.
 pub record IsAnsweredTo (call : Call) (c d : Standing) (place : ℕ) (reply : Reply) : Type 0 where
   pub history : List Entry
   pub ends_there : length history ≡ place + 1
-  pub answers : Answers c.room c.seen c.own c.number (call ∷ []) history (answer_of reply ∷ [])
+  pub answers : Answers c.bounds c.seen c.own c.number (call ∷ []) history (answer_of reply ∷ [])
   pub whole : Begins history d.seen
   pub record_is : d.own ≡ c.own ++ call ∷ []
 
@@ -85,7 +100,7 @@ pub record IsAnsweredTo (call : Call) (c d : Standing) (place : ℕ) (reply : Re
 pub record IsBlockAnsweredTo (calls : List Call) (c d : Standing) (place : ℕ) (replies : List Answer) : Type 0 where
   pub history : List Entry
   pub ends_there : length history ≡ place + length calls
-  pub answers : Answers c.room c.seen c.own c.number calls history replies
+  pub answers : Answers c.bounds c.seen c.own c.number calls history replies
   pub whole : Begins history d.seen
   pub record_is : d.own ≡ c.own ++ calls
 

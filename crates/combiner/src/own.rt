@@ -32,7 +32,7 @@ fn enter(
     requires idle { IsIdle seat.old.standing }
     requires fresh { seat.old.pass ≡ Some (fresh_pass book.old.history) }
     requires number { seat.old.standing.number < caller_limit }
-    requires room { book.old.room ≡ seat.old.standing.room }
+    requires bounds { book.old.bounds ≡ seat.old.standing.bounds }
     requires begins { Begins seat.old.standing.seen book.old.history }
     requires own { calls_by seat.old.standing.number book.old.history ≡ seat.old.standing.own }
     requires whole { Whole book.old.history }
@@ -40,7 +40,7 @@ fn enter(
     ensures ran { IfOk result (λ answer. HasEntered call seat.old seat.new answer.0 answer.1) }
     ensures fresh { seat.new.pass ≡ Some (fresh_pass book.new.history) }
     ensures begins { Begins seat.new.standing.seen book.new.history }
-    ensures room { book.new.room ≡ book.old.room }
+    ensures bounds { book.new.bounds ≡ book.old.bounds }
     ensures back { IfErr result (λ refused. refused.0 ≡ call) }
     ensures kept { OnErr result (seat.new ≡ seat.old) }
 {
@@ -66,7 +66,7 @@ pub(crate) fn serve_left(
     requires held { seat.old.standing.held ≡ true }
     requires inside { seat.old.standing.number < callers }
     requires begins { Begins seat.old.standing.seen desk.value.book.history }
-    requires room { desk.value.book.room ≡ seat.old.standing.room }
+    requires bounds { desk.value.book.bounds ≡ seat.old.standing.bounds }
     requires spare { IsSpare slots.now.slots desk.value }
     ensures place { seat.new.standing.machine ≡ slots.now }
     ensures goes_on { KeepsCall seat.old.standing seat.new.standing }

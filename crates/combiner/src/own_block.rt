@@ -58,7 +58,7 @@ fn enter_block(
     requires idle { IsIdle seat.old.standing }
     requires fresh { seat.old.pass ≡ Some (fresh_pass book.old.history) }
     requires number { seat.old.standing.number < caller_limit }
-    requires room { book.old.room ≡ seat.old.standing.room }
+    requires bounds { book.old.bounds ≡ seat.old.standing.bounds }
     requires begins { Begins seat.old.standing.seen book.old.history }
     requires own { calls_by seat.old.standing.number book.old.history ≡ seat.old.standing.own }
     requires whole { Whole book.old.history }
@@ -66,7 +66,7 @@ fn enter_block(
     ensures ran { IfOk result (λ answer. HasEnteredBlock calls.items seat.old seat.new answer.0 (map answer_of answer.1.items)) }
     ensures fresh { seat.new.pass ≡ Some (fresh_pass book.new.history) }
     ensures begins { Begins seat.new.standing.seen book.new.history }
-    ensures room { book.new.room ≡ book.old.room }
+    ensures bounds { book.new.bounds ≡ book.old.bounds }
     ensures back { IfErr result (λ refused. refused.0 ≡ calls) }
     ensures kept { OnErr result (seat.new ≡ seat.old) }
 {

@@ -81,7 +81,7 @@ pub(crate) fn serve(
     requires ready { IsReadyDesk callers seat.old numbers.now desk.value }
     ensures place { seat.new.standing.machine ≡ slots.now }
     ensures served { HasPassed seat.old seat.new result.0 }
-    ensures batch { ServesBatch seat.old.standing.room callers seat.old.standing.seen seat.new.standing.seen
+    ensures batch { ServesBatch seat.old.standing.bounds callers seat.old.standing.seen seat.new.standing.seen
         result.0 result.1.waves result.1.kernels }
     ensures few { result.0 ≤ callers }
     ensures few_waves { result.1.waves ≤ result.0 }
@@ -119,7 +119,7 @@ pub(crate) fn pass(
     requires no_desk { seat.old.pass ≡ None }
     ensures place { seat.new.standing.machine ≡ slots.now }
     ensures served { IfSome result (λ p. HasPassed seat.old seat.new p.0) }
-    ensures batch { IfSome result (λ p. ServesBatch seat.old.standing.room callers
+    ensures batch { IfSome result (λ p. ServesBatch seat.old.standing.bounds callers
         seat.old.standing.seen seat.new.standing.seen p.0 p.1.waves p.1.kernels) }
     ensures few { IfSome result (λ p. p.0 ≤ callers) }
     ensures few_waves { IfSome result (λ p. p.1.waves ≤ p.0) }

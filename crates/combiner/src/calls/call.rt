@@ -30,7 +30,7 @@ impl Shared {
         requires idle { IsIdle caller.old }
         ensures machine { caller.new.machine ≡ self.now }
         ensures number { caller.new.number ≡ caller.old.number }
-        ensures room { caller.new.room ≡ caller.old.room }
+        ensures bounds { caller.new.bounds ≡ caller.old.bounds }
         ensures idle { IsIdle caller.new }
         ensures later { Begins caller.old.seen caller.new.seen }
         ensures rests { Rests caller.new }

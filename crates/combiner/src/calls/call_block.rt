@@ -32,7 +32,7 @@ impl Shared {
         requires few { (1 ≤ length calls.items) × (length calls.items ≤ block_limit) }
         ensures machine { caller.new.machine ≡ self.now }
         ensures number { caller.new.number ≡ caller.old.number }
-        ensures room { caller.new.room ≡ caller.old.room }
+        ensures bounds { caller.new.bounds ≡ caller.old.bounds }
         ensures idle { IsIdle caller.new }
         ensures later { Begins caller.old.seen caller.new.seen }
         ensures rests { Rests caller.new }

@@ -30,7 +30,7 @@ impl Shared {
         ensures served { IfServed result (λ calls waves kernels. caller.new ≡ serving caller.old caller.new.seen calls) }
         ensures later { OnServed result (Begins caller.old.seen caller.new.seen) }
         ensures batch { IfServed result
-            (ServesBatch caller.old.room (callers_of self.now) caller.old.seen caller.new.seen) }
+            (ServesBatch caller.old.bounds (callers_of self.now) caller.old.seen caller.new.seen) }
         ensures few_waves { IfServed result (λ calls waves kernels. waves ≤ calls) }
         ensures few { IfServed result (λ calls waves kernels. calls ≤ callers_of self.now) }
         ensures rests { Rests caller.new }

@@ -18,7 +18,7 @@ step_enter-requires-clause-entered g c =
 
 pub returns-then-is_ok-clause-ran : goal.returns-then-is_ok-clause-ran
 returns-then-is_ok-clause-ran g c =
-    own_answers c.args.call c.args.seat.now c.step_enter.new.seat c.args.book.now.room c.args.book.now.history c.run-ran.new.self.history c.run-ran.result
+    own_answers c.args.call c.args.seat.now c.step_enter.new.seat c.args.book.now.bounds c.args.book.now.history c.run-ran.new.self.history c.run-ran.result
     (on_ok_weaker c.run-ran.result (λ (ran : c.run-ran.new.self.history ≡ c.args.book.now.history ++ next_entry c.args.book.now.history c.number.result c.args.call ∷ []).
     ran ∙ ap (λ (k : ℕ). c.args.book.now.history ++ next_entry c.args.book.now.history k c.args.call ∷ []) c.number.ensures) c.run-ran.ensures.history)
-    c.run-ran.ensures.place c.run-ran.ensures.reply c.requires.room c.requires.begins c.requires.whole c.requires.own c.step_enter.ensures.known
+    c.run-ran.ensures.place c.run-ran.ensures.reply c.requires.bounds c.requires.begins c.requires.whole c.requires.own c.step_enter.ensures.known

@@ -24,9 +24,9 @@ pub returns-then-is_ok-clause-ran : goal.returns-then-is_ok-clause-ran
 returns-then-is_ok-clause-ran g c =
     let history = c.args.book.now.history in
     let calls = c.args.calls.items in
-    block_answers calls c.args.seat.now c.step_enter.new.seat c.args.book.now.room history c.run_block-ran.new.self.history c.run_block-ran.result
+    block_answers calls c.args.seat.now c.step_enter.new.seat c.args.book.now.bounds history c.run_block-ran.new.self.history c.run_block-ran.result
     (on_ok_weaker c.run_block-ran.result (λ (ran : c.run_block-ran.new.self.history ≡ history ++ block_entries history c.number-number.result calls).
     ran ∙ ap (λ (k : ℕ). history ++ block_entries history k calls) c.number-number.ensures) c.run_block-ran.ensures.history)
     c.run_block-ran.ensures.place
-    (subst (λ (k : ℕ). IfOk c.run_block-ran.result (λ a. map answer_of a.1.items ≡ replies_from (replay c.args.book.now.room history) (block_entries history k calls))) c.number-number.ensures c.run_block-ran.ensures.replies)
-    c.requires.room c.requires.begins c.requires.whole c.requires.own c.step_enter.ensures.known
+    (subst (λ (k : ℕ). IfOk c.run_block-ran.result (λ a. map answer_of a.1.items ≡ replies_from (replay c.args.book.now.bounds history) (block_entries history k calls))) c.number-number.ensures c.run_block-ran.ensures.replies)
+    c.requires.bounds c.requires.begins c.requires.whole c.requires.own c.step_enter.ensures.known

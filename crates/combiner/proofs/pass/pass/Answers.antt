@@ -22,4 +22,4 @@ pub returns-clause-batch : goal.returns-clause-batch
 returns-clause-batch g c =
     let second : c.take_all.new.seat ≡ passing (locking c.args.seat.now c.in_ok-desk.desk.value.book.history) (pass_in c.take_all.new.seat) =
     c.take_all.ensures.taken.now_is ∙ ap (λ (k : Known). passing k (pass_in c.take_all.new.seat)) c.in_ok-desk.ensures.won in
-    subst (λ (k : Known). ServesBatch k.standing.room c.args.callers k.standing.seen c.serve.new.seat.standing.seen c.serve.result.0 c.serve.result.1.waves c.serve.result.1.kernels) second c.serve.ensures.batch
+    subst (λ (k : Known). ServesBatch k.standing.bounds c.args.callers k.standing.seen c.serve.new.seat.standing.seen c.serve.result.0 c.serve.result.1.waves c.serve.result.1.kernels) second c.serve.ensures.batch

@@ -1,4 +1,5 @@
 use Rattle.std.proofs.Common.{rules, ◌≡◌, ℕ, length, refl, ap, sym, subst, ◌∙◌}
+use Rattle.vector_memory.specs.declared.bounds.Bounds.{Bounds}
 use Rattle.call_history.specs.History.{Begins}
 use Rattle.call_history.proofs.Beginnings.{begins_trans}
 use Rattle.combiner.specs.Passes.{IsBatch, HasPassed}
@@ -44,11 +45,11 @@ returns-clause-batch g c =
     let taken : IsBatch c.args.callers c.deref_mut-open.result.now.requests.items = subst (IsBatch c.args.callers) (sym same) batch in
     let count : c.len-count.result ≡ length c.args.desk.value.requests.items = search rules in
     let line : c.deref_mut-open.result.now.book.history ≡ c.args.desk.value.book.history = search rules in
-    let opened : c.deref_mut-open.result.now.book.room ≡ c.args.desk.value.book.room = search rules in
-    let room : c.deref_mut-open.result.now.book.room ≡ c.args.seat.now.standing.room = opened ∙ ready.room_is in
+    let opened : c.deref_mut-open.result.now.book.bounds ≡ c.args.desk.value.book.bounds = search rules in
+    let bounds : c.deref_mut-open.result.now.book.bounds ≡ c.args.seat.now.standing.bounds = opened ∙ ready.bounds_is in
     let seen : c.step_unlock.new.seat.standing.seen ≡ c.run_batch-ran.new.book.history = search rules in
-    subst (λ (z : ℕ). ServesBatch z c.args.callers c.args.seat.now.standing.seen c.step_unlock.new.seat.standing.seen c.len-count.result c.run_batch-ran.result.waves c.run_batch-ran.result.kernels) room
-    (pass_batch c.deref_mut-open.result.now.book.room c.args.callers c.len-count.result c.args.seat.now.standing.seen c.deref_mut-open.result.now.book.history c.run_batch-ran.new.book.history
+    subst (λ (z : Bounds). ServesBatch z c.args.callers c.args.seat.now.standing.seen c.step_unlock.new.seat.standing.seen c.len-count.result c.run_batch-ran.result.waves c.run_batch-ran.result.kernels) bounds
+    (pass_batch c.deref_mut-open.result.now.book.bounds c.args.callers c.len-count.result c.args.seat.now.standing.seen c.deref_mut-open.result.now.book.history c.run_batch-ran.new.book.history
     c.step_unlock.new.seat.standing.seen c.deref_mut-open.result.now.requests.items c.run_batch-ran.new.outcomes.items c.run_batch-ran.result _ refl refl
     (subst (Begins c.args.seat.now.standing.seen) (sym line) ready.begins) seen (ap length same ∙ sym count) taken.distinct taken.inside ran.serves ran.waves ran.sure ran.bound ran.few_singles)
 
