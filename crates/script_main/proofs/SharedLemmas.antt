@@ -4,40 +4,49 @@
 use Rattle.std.proofs.Common.{inr, ◌≡◌, ◌<◌, ℕ, List, [], Vec, Option, Some, None, Result, Ok, Err, refl, subst, arith}
 use Rattle.std.specs.Prelude.{IfSome, OnOk, OnErr, IfErr}
 use Rattle.std.specs.Global.{Global}
-use Rattle.cvl_text.specs.declared.call.Call.{Call}
+use Rattle.vector_memory.specs.declared.edition.Edition.{Edition}
+use Rattle.vector_memory.specs.States.{bounds_in}
 use Rattle.cvl_text.specs.declared.reply.Reply.{Reply}
 use Rattle.call_history.specs.Books.{BookState}
 use Rattle.script_lines.specs.declared.fault.RunFault.{RunFault}
 use Rattle.script_lines.specs.declared.fault.RunFault.TheVariants as stops
-use Rattle.script_lines.specs.Scripts.{lines_of}
+use Rattle.script_lines.specs.Scripts.{edition_of, lines_of}
+use Rattle.script_lines.specs.declared.script.Script.{Script}
 use Rattle.script_lines.specs.Streams.{Awaits, HasBegun}
 use Rattle.script_lines.specs.Runs.{IsCounted}
-use Rattle.script_lines.specs.Readings.{lists_of, AreCallsOf}
+use Rattle.script_lines.specs.Readings.{lists_of, AreJobsOf}
 use Rattle.script_main.specs.Reports.{IsReportFault, answers_of, report_text}
 use Rattle.script_main.specs.Settles.{IsSettled}
 use Rattle.script_main.specs.SharedRuns.{IsReportOf, IsReadWhole, RunsShared}
 
-module _ (room : ℕ) (scripts : Vec (Vec Call Global) Global) (replies : Vec (Vec Reply Global) Global) (book : BookState) (settled : IsSettled room (lists_of scripts) replies book) where
+module _ (room : ℕ) (script : Script) (replies : Vec (Vec Reply Global) Global) (book : BookState) (settled : IsSettled (bounds_in script.edition room) (lists_of script.workers) replies book) where
   abbrev text : List ℕ
   text = report_text (answers_of replies) book
 
-  report-of : (input : List ℕ) → AreCallsOf (lists_of scripts) (lines_of input) → IsReportOf room (lines_of input) text
-  report-of input calls = record { scripts = lists_of scripts; replies = replies; book = book; calls = calls; settled = settled; text_is = refl }
+  report-of : (input : List ℕ) → script.edition ≡ edition_of (lines_of input) → AreJobsOf (lists_of script.workers) (lines_of input) → IsReportOf room (lines_of input) text
+  report-of input edition jobs = record {
+    scripts = lists_of script.workers;
+    replies = replies;
+    book = book;
+    jobs = jobs;
+    settled = subst (λ (e : Edition). IsSettled (bounds_in e room) (lists_of script.workers) replies book) edition settled;
+    text_is = refl;
+  }
 
-  reports-of : (result : Result (Unit {0}) RunFault) (input : List ℕ) (left old mid new : Option (List ℕ)) (writes writes' : ℕ) → IsReadWhole (Ok scripts) input left old mid
+  reports-of : (result : Result (Unit {0}) RunFault) (input : List ℕ) (left old mid new : Option (List ℕ)) (writes writes' : ℕ) → IsReadWhole (Ok script) input left old mid
       → OnOk result (Awaits mid new [] text) → OnErr result (HasBegun mid new text) → IfErr result (λ fault. IsReportFault fault writes writes') → RunsShared result room input left old new
   reports-of (Ok done) input left old mid new writes writes' read all begun fault =
-      (read.0, text, report-of input read.1, subst (λ (o : Option (List ℕ)). Awaits o new [] text) read.2 all)
+      (read.1, text, report-of input read.0 read.2, subst (λ (o : Option (List ℕ)). Awaits o new [] text) read.3 all)
   reports-of (Err stops.OutOfMemory) input left old mid new writes writes' read all begun fault =
-      inr (read.0, text, report-of input read.1, subst (λ (o : Option (List ℕ)). HasBegun o new text) read.2 begun)
+      inr (read.1, text, report-of input read.0 read.2, subst (λ (o : Option (List ℕ)). HasBegun o new text) read.3 begun)
   reports-of (Err stops.Write) input left old mid new writes writes' read all begun fault =
-      inr (read.0, text, report-of input read.1, subst (λ (o : Option (List ℕ)). HasBegun o new text) read.2 begun)
+      inr (read.1, text, report-of input read.0 read.2, subst (λ (o : Option (List ℕ)). HasBegun o new text) read.3 begun)
   reports-of (Err (stops.BadLine number)) input left old mid new writes writes' read all begun fault = absurd fault
   reports-of (Err stops.Read) input left old mid new writes writes' read all begun fault = absurd fault
   reports-of (Err (stops.Stopped worker)) input left old mid new writes writes' read all begun fault = absurd fault
   reports-of (Err stops.Unfinished) input left old mid new writes writes' read all begun fault = absurd fault
 
-  pub reports : (result : Result (Unit {0}) RunFault) (input left old mid new : Option (List ℕ)) (writes writes' : ℕ) → IfSome input (λ script. IsReadWhole (Ok scripts) script left old mid)
+  pub reports : (result : Result (Unit {0}) RunFault) (input left old mid new : Option (List ℕ)) (writes writes' : ℕ) → IfSome input (λ text. IsReadWhole (Ok script) text left old mid)
       → OnOk result (Awaits mid new [] text) → OnErr result (HasBegun mid new text) → IfErr result (λ fault. IsReportFault fault writes writes')
       → IfSome input (λ script. RunsShared result room script left old new)
   reports result None left old mid new writes writes' read all begun fault = tt

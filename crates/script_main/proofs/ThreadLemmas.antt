@@ -1,14 +1,15 @@
--- Lists of workers. `zip_more` and `zip_then` are of lists whose members go together place by place, `jobs_more` of the list of
--- jobs; `ended` says how a worker ends whose thread was started and joined.
+-- Lists of workers. `zip_more` and `zip_then` are of lists whose members go together place by place; `ended` says how a
+-- worker ends whose thread was started and joined.
 use Rattle.std.proofs.Common.{◌≡◌, ℕ, suc, Bool, List, [], ◌∷◌, ◌++◌, sym, ap, ◌∙◌, subst, arith, append_assoc, Result}
 use Rattle.std.specs.Prelude.{All}
 use Rattle.std.specs.List.{AllZip}
 use Rattle.std.proofs.lemmas.Slice.Zip.{all_zipped_more}
-use Rattle.cvl_text.specs.declared.call.Call.{Call}
+use Rattle.vector_memory.specs.declared.bounds.Bounds.{Bounds}
+use Rattle.call_history.specs.declared.request.Job.{Job}
 use Rattle.combiner.specs.Standing.{Machine}
 use Rattle.script_lines.specs.declared.fault.RunFault.{RunFault}
 use Rattle.script_main.specs.declared.work.Worked.{Worked}
-use Rattle.script_main.specs.declared.threads.Job.{Job}
+use Rattle.script_main.specs.declared.threads.Worker.{Worker}
 use Rattle.script_main.specs.declared.threads.Started.{Started}
 use Rattle.script_main.specs.declared.threads.Started.TheVariants.{Runs, Refused}
 use Rattle.script_main.specs.Workers.{Ends, IsEndOf, IsStarted, IsJoined}
@@ -33,13 +34,13 @@ zip_then R S T (x ∷ xs) [] zs then r s = absurd r
 zip_then R S T (x ∷ xs) (y ∷ ys) [] then r s = absurd s
 zip_then R S T (x ∷ xs) (y ∷ ys) (z ∷ zs) then r s = (then x y z r.0 s.0, zip_then R S T xs ys zs then r.1 s.1)
 
-ended : {G : Type 0} (may_answer : G → ℕ → ℕ → Bool → Type 0) (gate : G) (m : Machine) (room : ℕ) (job : Job) (started : Started G) (end : Result Worked RunFault) → IsStarted gate m room job started
-    → IsJoined may_answer started end → IsEndOf (may_answer gate) m room job end
-ended {G = G} may_answer gate m room job (Runs handle) end is joined =
-    subst (λ (z : G × Machine × ℕ × ℕ × (List Call)). Ends (may_answer z.0) z.1 z.2 z.3 z.4 end) (λ i. (is.0 i, is.1 i, is.2 i, is.3 i, is.4 i)) joined
-ended may_answer gate m room job Refused end is joined = subst (IsEndOf (may_answer gate) m room job) (sym joined) (record { done = tt; gated = tt })
+ended : {G : Type 0} (may_answer : G → ℕ → ℕ → Bool → Type 0) (gate : G) (m : Machine) (bounds : Bounds) (worker : Worker) (started : Started G) (end : Result Worked RunFault) → IsStarted gate m bounds worker started
+    → IsJoined may_answer started end → IsEndOf (may_answer gate) m bounds worker end
+ended {G = G} may_answer gate m bounds worker (Runs handle) end is joined =
+    subst (λ (z : G × Machine × Bounds × ℕ × (List Job)). Ends (may_answer z.0) z.1 z.2 z.3 z.4 end) (λ i. (is.0 i, is.1 i, is.2 i, is.3 i, is.4 i)) joined
+ended may_answer gate m bounds worker Refused end is joined = subst (IsEndOf (may_answer gate) m bounds worker) (sym joined) (record { done = tt; gated = tt })
 
-pub all_ended : {G : Type 0} (may_answer : G → ℕ → ℕ → Bool → Type 0) (gate : G) (m : Machine) (room : ℕ) (jobs : List Job) (started : List (Started G)) (ends : List (Result Worked RunFault))
-    → AllZip (IsStarted gate m room) jobs started → AllZip (IsJoined may_answer) started ends → AllZip (IsEndOf (may_answer gate) m room) jobs ends
-all_ended may_answer gate m room jobs started ends s j =
-    zip_then (IsStarted gate m room) (IsJoined may_answer) (IsEndOf (may_answer gate) m room) jobs started ends (λ job worker end. ended may_answer gate m room job worker end) s j
+pub all_ended : {G : Type 0} (may_answer : G → ℕ → ℕ → Bool → Type 0) (gate : G) (m : Machine) (bounds : Bounds) (workers : List Worker) (started : List (Started G)) (ends : List (Result Worked RunFault))
+    → AllZip (IsStarted gate m bounds) workers started → AllZip (IsJoined may_answer) started ends → AllZip (IsEndOf (may_answer gate) m bounds) workers ends
+all_ended may_answer gate m bounds workers started ends s j =
+    zip_then (IsStarted gate m bounds) (IsJoined may_answer) (IsEndOf (may_answer gate) m bounds) workers started ends (λ worker thread end. ended may_answer gate m bounds worker thread end) s j

@@ -1,7 +1,7 @@
 -- What a gate may answer: which workers it may let do their scripts, and which it may stop. A gate is seen as the answers that
 -- it may give, by worker and turn.
 use Rattle.std.specs.Prelude.{ℕ, ◌<◌, Bool, true, false, List, [], length, slice_index_or}
-use Rattle.cvl_text.specs.declared.call.Call.{Call}
+use Rattle.call_history.specs.declared.request.Job.{Job}
 
 -- it may let worker k take each of its first n turns
 abbrev pub MayPass : (ℕ → ℕ → Bool → Type 0) → ℕ → ℕ → Type 0
@@ -15,11 +15,11 @@ pub record MayStop (may_answer : ℕ → ℕ → Bool → Type 0) (k n : ℕ) : 
   pub passes : MayPass may_answer k turn
 
 -- it may let worker k do its whole script
-abbrev pub MayFinish : (ℕ → ℕ → Bool → Type 0) → List (List Call) → ℕ → Type 0
+abbrev pub MayFinish : (ℕ → ℕ → Bool → Type 0) → List (List Job) → ℕ → Type 0
 MayFinish may_answer scripts k = MayPass may_answer k (length (slice_index_or scripts k []))
 
 -- It may stop worker k on its script, and let each lower worker do its whole one.
-pub record MayStopFirst (may_answer : ℕ → ℕ → Bool → Type 0) (scripts : List (List Call)) (k : ℕ) : Type 0 where
+pub record MayStopFirst (may_answer : ℕ → ℕ → Bool → Type 0) (scripts : List (List Job)) (k : ℕ) : Type 0 where
   pub there : k < length scripts
   pub stops : MayStop may_answer k (length (slice_index_or scripts k []))
   pub lower : (j : ℕ) → j < k → MayFinish may_answer scripts j

@@ -1,7 +1,8 @@
 -- What the program does with the words behind its name.
 use Rattle.std.specs.Prelude.{◌≡◌, ◌++◌, ◌<◌, ◌⊎◌, ℕ, List, [], ◌∷◌, Option, Result, Ok, Err, IfSome, codes}
 use Rattle.std.specs.Fmt.{decimal}
-use Rattle.vector_memory.specs.States.{empty, room_limit, IsLawfulRoom}
+use Rattle.vector_memory.specs.declared.edition.Edition.TheVariants.{One}
+use Rattle.vector_memory.specs.States.{bounds_in, empty, room_limit, IsLawfulRoom}
 use Rattle.script_lines.specs.declared.fault.RunFault.{RunFault}
 use Rattle.script_lines.specs.declared.fault.RunFault.TheVariants as stops
 use Rattle.script_main.specs.declared.mode.Mode.{Mode}
@@ -44,9 +45,9 @@ status_of (Err stops.Write) = 4
 status_of (Err (stops.Stopped worker)) = 5
 status_of (Err stops.Unfinished) = 5
 
--- what a run of this mode over an input comes to, from the empty memory of a room
+-- what a run of this mode over an input comes to in this room; a serial run begins with a memory of edition 1
 abbrev pub RunsAs : Mode → Result (Unit {0}) RunFault → ℕ → List ℕ → Option (List ℕ) → Option (List ℕ) → Option (List ℕ) → Type 0
-RunsAs Serial result room input left old new = Runs result (empty room) input left old new
+RunsAs Serial result room input left old new = Runs result (empty (bounds_in One room)) input left old new
 RunsAs Threads result room input left old new = RunsShared result room input left old new
 
 -- The program ran a script: its status is that of a run over the input.

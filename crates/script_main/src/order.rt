@@ -30,6 +30,6 @@ pub(crate) fn in_order(alloc: Global, memory: &Memory) -> Result<Vec<(&Name, &Va
     ensures { IfOk result (λ entries. map shown entries.items ≡ in_order memory.now.entries) }
 {
     let mut entries = listed(alloc, memory)?;
-    entries.sort_unstable_by(|one, other| one.0.text().cmp(other.0.text()));
+    entries.sort_unstable_by(|one, other| one.0.text().bytes().cmp(other.0.text().bytes()));
     Ok(entries)
 }

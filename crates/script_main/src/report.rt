@@ -24,7 +24,7 @@ use vector_memory::{Memory, Name, Value};
 fn append_entry(out: &mut Vec<u8>, name: &Name, value: &Value) -> Result<(), OutOfMemory>
     ensures { OnOk result (out.new.items ≡ out.old.items ++ entry_line (name.now, content_of value.now)) }
 {
-    out.extend_from_slice(name.text())?;
+    out.extend_from_slice(name.text().bytes())?;
     out.push(b' ')?;
     write_value(value, out)?;
     out.push(b'\n')?;

@@ -1,7 +1,7 @@
 //! The end of a run of worker threads: their callers meet, and one of them closes the machine.
 
 ghost use Rattle.std.specs.Prelude.{◌≡◌, ◌≢◌, ◌⊎◌, ℕ, List, ◌<◌, [], Ok, length, map, All, IsTrue, IsErrOf, OnOk, IfOk, IfErr, vec_len};
-ghost use Rattle.cvl_text.specs.declared.call.Call.{Call};
+ghost use Rattle.call_history.specs.declared.request.Job.{Job};
 ghost use Rattle.combiner.specs.Standing.{callers_of, newcomers, IsIdle};
 ghost use Rattle.script_main.specs.Settles.{IsSettled};
 ghost use Rattle.script_main.specs.Workers.{reply_count, IsFirstFault, HaveMet, ClosesWith, AreEnds, AllWorked, IsSettleFault};
@@ -13,6 +13,7 @@ use cvl_text::Reply;
 use script_lines::RunFault;
 use segment_desc::OutOfMemory;
 use std::alloc::Global;
+use vector_memory::Bounds;
 
 /// Whether there are so many replies in all.
 fn is_count_of(replies: &[Vec<Reply>], count: usize) -> bool
@@ -53,12 +54,12 @@ fn close(machine: Shared, closer: Caller, replies: Vec<Vec<Reply>>) -> Result<Se
 pub(crate) fn settle_nothing(
     alloc: Global,
     machine: Shared,
-    room: u64,
+    bounds: Bounds,
     mut callers: Vec<Caller>,
 ) -> Result<Settled, RunFault>
     requires alone { callers_of machine ≡ 1 }
-    requires callers { callers.items ≡ newcomers machine room 1 }
-    ensures settled { IfOk result (λ run. IsSettled room [] run.replies run.book) }
+    requires callers { callers.items ≡ newcomers machine bounds 1 }
+    ensures settled { IfOk result (λ run. IsSettled bounds [] run.replies run.book) }
     ensures never { IfErr result (λ fault. ⊥) }
 {
     let Some(closer) = callers.pop() else {
@@ -118,14 +119,14 @@ fn meet_all(
 pub(crate) fn settle(
     alloc: Global,
     machine: Shared,
-    room: u64,
+    bounds: Bounds,
     ends: Vec<Result<Worked, RunFault>>,
 ) -> Result<Settled, RunFault>
     requires some { ends.items ≢ [] }
-    requires ends { (scripts : List (List Call)) × AreEnds machine room scripts ends.items }
+    requires ends { (scripts : List (List Job)) × AreEnds machine bounds scripts ends.items }
     requires each { vec_len ends ≡ callers_of machine }
-    ensures settled { IfOk result (λ run. (scripts : List (List Call))
-        → AreEnds machine room scripts ends.items → IsSettled room scripts run.replies run.book) }
+    ensures settled { IfOk result (λ run. (scripts : List (List Job))
+        → AreEnds machine bounds scripts ends.items → IsSettled bounds scripts run.replies run.book) }
     ensures worked { OnOk result (AllWorked ends.items) }
     ensures fault { IfErr result (IsSettleFault (callers_of machine) ends.items) }
 {

@@ -3,15 +3,15 @@
 ghost use Rattle.std.specs.Prelude.{◌≡◌, ◌<◌, ◌≤◌, ℕ, Err, OnOk, IfOk, IfSome, vec_len};
 ghost use Rattle.vector_memory.specs.States.{IsLawfulRoom};
 ghost use Rattle.call_history.specs.Callers.{caller_limit};
+ghost use Rattle.script_lines.specs.Readings.{AreLawful, lists_of};
 ghost use Rattle.script_lines.specs.Runs.{IsCounted};
 ghost use Rattle.script_main.specs.SharedRuns.{IsReadWhole, RunsShared};
 
 use crate::gate::Open;
 use crate::report::write_report;
 use crate::threads::run_threads;
-use cvl_text::Call;
 use scan_kernels::Execution;
-use script_lines::{RunFault, Sink, Source, read_script, write_bad_line};
+use script_lines::{RunFault, Script, Sink, Source, read_script, write_bad_line};
 use std::alloc::Global;
 use std::sync::Wait;
 use std::thread::Threads;
@@ -21,12 +21,13 @@ fn read_whole<R: Source, W: Sink>(
     alloc: Global,
     reader: &mut R,
     writer: &mut W,
-) -> Result<Vec<Vec<Call>>, RunFault>
+) -> Result<Script, RunFault>
     requires readable { R.can_read reader.old }
     requires writable { W.can_write writer.old }
     ensures read { IfSome (R.rest reader.old) (λ input. IsReadWhole result input
         (R.rest reader.new) (W.written writer.old) (W.written writer.new)) }
-    ensures few { IfOk result (λ calls. vec_len calls ≤ caller_limit) }
+    ensures few { IfOk result (λ script. vec_len script.workers ≤ caller_limit) }
+    ensures lawful { IfOk result (λ script. AreLawful (lists_of script.workers)) }
     ensures ready { OnOk result (W.can_write writer.new) }
     ensures counted { OnOk result (W.failures writer.new ≡ W.failures writer.old) }
     ensures cut { result ≡ Err RunFault.Read → R.failures reader.old < R.failures reader.new }
@@ -34,7 +35,7 @@ fn read_whole<R: Source, W: Sink>(
     ensures unstopped { (worker : ℕ) → result ≡ Err (RunFault.Stopped worker) → ⊥ }
 {
     match read_script(alloc, reader) {
-        Ok(calls) => Ok(calls),
+        Ok(script) => Ok(script),
         Err(RunFault::BadLine(number)) => match write_bad_line(writer, number) {
             Ok(()) => Err(RunFault::BadLine(number)),
             Err(_) => Err(RunFault::Write),
@@ -43,7 +44,7 @@ fn read_whole<R: Source, W: Sink>(
     }
 }
 
-/// Reads a script, runs it with a thread for each of its callers on a machine whose memory has this room, and writes the
+/// Reads a script, runs it with a thread for each of its callers on a machine whose memory has this room and the script's edition, and writes the
 /// report.
 ///
 /// It ends at the first bad line, of which nothing is run, for want of memory, where a read or a write fails, and where the
@@ -63,7 +64,7 @@ pub(crate) fn run_shared<R: Source, W: Sink, T: Threads + Wait + Execution<Share
     ensures counted { IsCounted result (R.failures reader.old) (R.failures reader.new)
         (W.failures writer.old) (W.failures writer.new) }
 {
-    let scripts = read_whole(alloc, reader, writer)?;
-    let settled = run_threads(rt, alloc, scripts, room, &Open)?;
+    let script = read_whole(alloc, reader, writer)?;
+    let settled = run_threads(rt, alloc, script, room, &Open)?;
     write_report(rt, alloc, &settled, writer)
 }

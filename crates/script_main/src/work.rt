@@ -1,10 +1,15 @@
 //! One worker: a caller that does its script.
 
-ghost use Rattle.std.specs.Prelude.{true, ◌≡◌, OnOk, IfOk, IfErr, length};
+ghost use Rattle.std.specs.Prelude.{true, ◌≡◌, ◌≤◌, OnOk, IfErr, length};
+ghost use Rattle.std.specs.List.{AllByRecursion};
+ghost use Rattle.call_history.specs.declared.request.Job.TheVariants.{One, Many};
+ghost use Rattle.call_history.specs.Blocks.{block_limit};
+ghost use Rattle.call_history.specs.Fits.{IsLawfulJob};
 ghost use Rattle.combiner.specs.Standing.{IsIdle, IsNewAt};
-ghost use Rattle.script_main.specs.Workers.{TakesTurn, IsTurnFault, IsEnd, IsGated};
+ghost use Rattle.script_main.specs.Workers.{GoesOn, IsTurnFault, IsEnd, IsGated};
 
 use crate::gate::Gate;
+use call_history::Job;
 use combiner::{Caller, Shared};
 use cvl_text::{Call, Reply};
 use script_lines::RunFault;
@@ -19,8 +24,19 @@ pub(crate) struct Worked {
     pub replies: Vec<Reply>,
 }
 
-/// Leaves a call, asks the gate, and waits for the reply.
-fn take_turn<G: Gate>(
+/// Asks the gate whether a worker may take a turn.
+fn ask_gate<G: Gate>(gate: &G, worker: u64, turn: u64) -> Result<(), RunFault>
+    ensures passes { OnOk result (G.may_answer gate.now worker turn true) }
+    ensures fault { IfErr result (IsTurnFault (G.may_answer gate.now) worker turn) }
+{
+    if !gate.before(worker, turn) {
+        return Err(RunFault::Stopped(worker));
+    }
+    Ok(())
+}
+
+/// Leaves a call, asks the gate, and waits for the reply, which goes behind the others.
+fn take_call<G: Gate>(
     rt: &(impl Threads + Wait + Sync),
     alloc: Global,
     shared: &Shared,
@@ -28,10 +44,11 @@ fn take_turn<G: Gate>(
     call: Call,
     turn: u64,
     gate: &G,
-) -> Result<Reply, RunFault>
+    replies: &mut Vec<Reply>,
+) -> Result<(), RunFault>
     requires machine { caller.old.machine ≡ shared.now }
     requires idle { IsIdle caller.old }
-    ensures turn { IfOk result (TakesTurn caller.old call caller.new) }
+    ensures turn { OnOk result (GoesOn (One call) caller.old replies.old.items caller.new replies.new.items) }
     ensures passes { OnOk result (G.may_answer gate.now caller.old.number turn true) }
     ensures fault { IfErr result (IsTurnFault (G.may_answer gate.now) caller.old.number turn) }
 {
@@ -39,37 +56,95 @@ fn take_turn<G: Gate>(
     let Ok(()) = shared.post(caller, call) else {
         unreachable!()
     };
-    if !gate.before(worker, turn) {
-        return Err(RunFault::Stopped(worker));
-    }
-    match shared.wait(rt, alloc, caller) {
-        Ok((_, reply)) => Ok(reply),
-        Err(_) => Err(RunFault::OutOfMemory),
+    ask_gate(gate, worker, turn)?;
+    let Ok((_, reply)) = shared.wait(rt, alloc, caller) else {
+        return Err(RunFault::OutOfMemory);
+    };
+    let Ok(()) = replies.push(reply) else {
+        return Err(RunFault::OutOfMemory);
+    };
+    Ok(())
+}
+
+/// Leaves a block, asks the gate, and waits for the replies, which go behind the others.
+fn take_block<G: Gate>(
+    rt: &(impl Threads + Wait + Sync),
+    alloc: Global,
+    shared: &Shared,
+    caller: &mut Caller,
+    calls: Vec<Call>,
+    turn: u64,
+    gate: &G,
+    replies: &mut Vec<Reply>,
+) -> Result<(), RunFault>
+    requires machine { caller.old.machine ≡ shared.now }
+    requires idle { IsIdle caller.old }
+    requires few { (1 ≤ length calls.items) × (length calls.items ≤ block_limit) }
+    ensures turn { OnOk result (GoesOn (Many calls) caller.old replies.old.items caller.new replies.new.items) }
+    ensures passes { OnOk result (G.may_answer gate.now caller.old.number turn true) }
+    ensures fault { IfErr result (IsTurnFault (G.may_answer gate.now) caller.old.number turn) }
+{
+    let worker = caller.number() as u64;
+    let Ok(()) = shared.post_block(caller, calls) else {
+        unreachable!()
+    };
+    ask_gate(gate, worker, turn)?;
+    let Ok((_, mut own)) = shared.wait_block(rt, alloc, caller) else {
+        return Err(RunFault::OutOfMemory);
+    };
+    let Ok(()) = replies.append(&mut own) else {
+        return Err(RunFault::OutOfMemory);
+    };
+    Ok(())
+}
+
+/// Takes a turn: leaves a job, asks the gate, and waits for the replies, which go behind the others.
+fn take_turn<G: Gate>(
+    rt: &(impl Threads + Wait + Sync),
+    alloc: Global,
+    shared: &Shared,
+    caller: &mut Caller,
+    job: Job,
+    turn: u64,
+    gate: &G,
+    replies: &mut Vec<Reply>,
+) -> Result<(), RunFault>
+    requires machine { caller.old.machine ≡ shared.now }
+    requires idle { IsIdle caller.old }
+    requires lawful { IsLawfulJob job }
+    ensures turn { OnOk result (GoesOn job caller.old replies.old.items caller.new replies.new.items) }
+    ensures passes { OnOk result (G.may_answer gate.now caller.old.number turn true) }
+    ensures fault { IfErr result (IsTurnFault (G.may_answer gate.now) caller.old.number turn) }
+{
+    match job {
+        Job::One(call) => take_call(rt, alloc, shared, caller, call, turn, gate, replies),
+        Job::Many(calls) => take_block(rt, alloc, shared, caller, calls, turn, gate, replies),
     }
 }
 
-/// Does a script, call by call, and asks the gate before each and once more behind the last.
+/// Does a script, job by job, and asks the gate before each and once more behind the last.
 pub(crate) fn work<G: Gate>(
     rt: &(impl Threads + Wait + Sync),
     alloc: Global,
     shared: &Shared,
     mut caller: Caller,
-    script: Vec<Call>,
+    script: Vec<Job>,
     gate: &G,
 ) -> Result<Worked, RunFault>
-    requires { IsNewAt shared.now caller.room caller }
-    ensures done { IsEnd shared.now caller.room caller.number script.items result }
+    requires new { IsNewAt shared.now caller.bounds caller }
+    requires lawful { AllByRecursion IsLawfulJob script.items }
+    ensures done { IsEnd shared.now caller.bounds caller.number script.items result }
     ensures gated { IsGated (G.may_answer gate.now) caller.number (length script.items) result }
 {
     let worker = caller.number() as u64;
     let Ok(mut replies) = Vec::with_capacity(alloc, script.len()) else {
         return Err(RunFault::OutOfMemory);
     };
-    for call in script {
-        let turn = replies.len() as u64;
-        let reply = take_turn(rt, alloc, shared, &mut caller, call, turn, gate)?;
-        replies.push_reserved(reply);
+    let mut turn = 0;
+    for job in script {
+        take_turn(rt, alloc, shared, &mut caller, job, turn, gate, &mut replies)?;
+        turn += 1;
     }
-    let _ = gate.before(worker, replies.len() as u64);
+    let _ = gate.before(worker, turn);
     Ok(Worked { caller, replies })
 }

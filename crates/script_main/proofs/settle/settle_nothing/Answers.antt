@@ -5,6 +5,6 @@ use Rattle.script_main.proofs.settle.settle_nothing.Goals as goal
 
 pub returns-clause-settled : goal.returns-clause-settled
 returns-clause-settled c =
-    let alone : c.args.callers.items ≡ newcomer c.args.machine c.args.room 0 ∷ [] = c.requires.callers in
-    let is : c.in-Some.closer ≡ newcomer c.args.machine c.args.room 0 = search rules in
-    closes_nothing c.close.result c.args.machine c.args.room c.in-Some.closer c.new.result (ap (λ (z : Standing). z.room) is) c.new.ensures.items c.close.ensures.replies c.close.ensures.closed
+    let alone : c.args.callers.items ≡ newcomer c.args.machine c.args.bounds 0 ∷ [] = c.requires.callers in
+    let is : c.in-Some.closer ≡ newcomer c.args.machine c.args.bounds 0 = search rules in
+    closes_nothing c.close.result c.args.machine c.args.bounds c.in-Some.closer c.new.result (ap (λ (z : Standing). z.bounds) is) c.new.ensures.items c.close.ensures.replies c.close.ensures.closed

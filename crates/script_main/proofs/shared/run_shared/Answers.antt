@@ -7,19 +7,19 @@ use Rattle.script_main.proofs.shared.run_shared.Goals as goal
 
 pub returns-clause-runs : goal.returns-clause-runs
 returns-clause-runs g c =
-    reports c.args.room c.in_ok-scripts.scripts c.in_ok-settled.settled.replies c.in_ok-settled.settled.book c.in_ok-settled.ensures.settled c.write_report.result (g.R.Source.rest c.args.reader.now) (g.R.Source.rest c.read_whole.new.reader)
+    reports c.args.room c.in_ok-script.script c.in_ok-settled.settled.replies c.in_ok-settled.settled.book c.in_ok-settled.ensures.settled c.write_report.result (g.R.Source.rest c.args.reader.now) (g.R.Source.rest c.read_whole.new.reader)
     (g.W.Sink.written c.args.writer.now) (g.W.Sink.written c.read_whole.new.writer) (g.W.Sink.written c.write_report.new.writer) (g.W.Sink.failures c.read_whole.new.writer) (g.W.Sink.failures c.write_report.new.writer)
-    c.in_ok-scripts.ensures.read c.write_report.ensures.written c.write_report.ensures.begun c.write_report.ensures.fault
+    c.in_ok-script.ensures.read c.write_report.ensures.written c.write_report.ensures.begun c.write_report.ensures.fault
 
 pub returns-clause-counted : goal.returns-clause-counted
 returns-clause-counted g c =
     counts c.write_report.result (g.R.Source.failures c.args.reader.now) (g.R.Source.failures c.read_whole.new.reader) (g.W.Sink.failures c.args.writer.now) (g.W.Sink.failures c.read_whole.new.writer)
-    (g.W.Sink.failures c.write_report.new.writer) c.in_ok-scripts.ensures.counted c.write_report.ensures.fault
+    (g.W.Sink.failures c.write_report.new.writer) c.in_ok-script.ensures.counted c.write_report.ensures.fault
 
-pub returns-in_err-scripts-clause-counted : goal.returns-in_err-scripts-clause-counted
-returns-in_err-scripts-clause-counted g c =
-    let said = c.in_err-scripts.ensures in
-    let fault = c.in_err-scripts.field-0.0 in
+pub returns-in_err-script-clause-counted : goal.returns-in_err-script-clause-counted
+returns-in_err-script-clause-counted g c =
+    let said = c.in_err-script.ensures in
+    let fault = c.in_err-script.field-0.0 in
     let given = err_from_is_err_and c.from_residual.result c.from_residual.ensures.1 in
     let is : c.from_residual.result ≡ Err fault = given.1 ∙ ap (λ (f : RunFault). Err f) given.2 in
     let reads = g.R.Source.failures c.args.reader.now in
