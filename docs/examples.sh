@@ -62,6 +62,7 @@ errors() {
     $2 ~ /^-/ { next }
     part == "## Faults" && code($5, 1) != "" { put(code($5, 1), lines($6), lines($7), 0) }
     part == "## Bad lines" && code($3, 1) != "" { put("serial", code($3, 1), "bad line 1", 2) }
+    part == "## Bad lines of edition 2" && code($3, 1) != "" { put("serial", lines($3), lines($4), 2); put("threads", lines($3), lines($4), 2) }
     ' ERRORS.md
 }
 

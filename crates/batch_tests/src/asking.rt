@@ -86,7 +86,8 @@ pub(crate) fn answers_of(rt: &impl Abort, alloc: Global, outcomes: &[Outcome]) -
 pub(crate) fn memory_of(rt: &impl Abort, alloc: Global, book: &Book) -> Vec<u8> {
     let mut text = Vec::new(alloc);
     for (name, value) in book.memory().iter() {
-        text.extend_from_slice(name.text()).expect(rt, "memory");
+        text.extend_from_slice(name.text().bytes())
+            .expect(rt, "memory");
         text.push(b' ').expect(rt, "memory");
         write_value(value, &mut text).expect(rt, "memory");
         text.push(b'\n').expect(rt, "memory");

@@ -115,7 +115,8 @@ fn keeps_the_operand_of_a_faulty_call(rt: HostRuntime) {
 fn names<R: Abort + Alloc<A = Global>>(rt: &R, memory: &Memory) -> Vec<u8> {
     let mut text = Vec::new(rt.alloc());
     for (name, _) in memory.iter() {
-        text.extend_from_slice(name.text()).expect(rt, "memory");
+        text.extend_from_slice(name.text().bytes())
+            .expect(rt, "memory");
         text.push(b' ').expect(rt, "memory");
     }
     text

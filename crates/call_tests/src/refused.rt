@@ -159,7 +159,8 @@ fn text_of<R: Abort + Alloc<A = Global>>(rt: &R, reply: &Reply) -> Vec<u8> {
 
 /// Puts the text of a name and its value behind another.
 fn write_entry(rt: &impl Abort, name: &Name, value: &Value, text: &mut Vec<u8>) {
-    text.extend_from_slice(name.text()).expect(rt, "memory");
+    text.extend_from_slice(name.text().bytes())
+        .expect(rt, "memory");
     text.push(b' ').expect(rt, "memory");
     write_value(value, text).expect(rt, "memory");
     text.push(b'\n').expect(rt, "memory");

@@ -9,7 +9,7 @@ use call_history::Book;
 use cvl_text::Call;
 use scan_kernels::Sequential;
 use std::alloc::Global;
-use vector_memory::{Memory, is_lawful_room};
+use vector_memory::{Edition, Memory, is_lawful_room};
 
 /// Runs the call of a line on a book, and notes what its caller is told. Whether the line is a call.
 fn run_line(
@@ -19,7 +19,7 @@ fn run_line(
     line: &str,
     told: &mut Vec<Told>,
 ) -> Option<bool> {
-    let Ok(call) = Call::read(alloc, line.as_bytes()) else {
+    let Ok(call) = Call::read_in(alloc, line.as_bytes(), Edition::Two) else {
         return Some(false);
     };
     let text = call_text(alloc, &call)?;
@@ -55,7 +55,7 @@ fn replay_lines(
     ensures { memory.new.block ≡ None }
 {
     for (number, line) in lines.lines().enumerate() {
-        let call = Call::read(alloc, line.as_bytes()).ok()?;
+        let call = Call::read_in(alloc, line.as_bytes(), Edition::Two).ok()?;
         let caller = (number % CALLERS) as u64;
         replay_call(alloc, memory, replay, caller, &call)?;
     }
@@ -64,7 +64,7 @@ fn replay_lines(
 
 /// Runs a script on a plain memory, and notes what is told. Whether it ends with what the book holds.
 fn replays(alloc: Global, script: &Script, book: &Book, replay: &mut Vec<Told>) -> Option<bool> {
-    let mut memory = Memory::new(alloc, book.room()).ok()?;
+    let mut memory = Memory::with_edition(alloc, book.room(), book.edition()).ok()?;
     replay_lines(alloc, &mut memory, &script.opening, replay)?;
     replay_lines(alloc, &mut memory, &script.calls, replay)?;
     hold_the_same(alloc, &memory, book.memory())
@@ -87,12 +87,12 @@ fn agrees(alloc: Global, script: &Script, book: &Book, told: &[Told]) -> Option<
     Some(replayed && are_alike(told, &replay))
 }
 
-/// A book of the script's room.
+/// A book of the script's room and edition.
 pub(crate) fn book_of(alloc: Global, script: &Script) -> Option<Book> {
     if !is_lawful_room(script.room) {
         return None;
     }
-    Book::new(alloc, script.room).ok()
+    Book::with_edition(alloc, script.room, script.edition).ok()
 }
 
 /// Whether this book, which is empty, tells what a plain memory replies, and holds the same.

@@ -15,6 +15,7 @@ use call_history::Book;
 use cvl_text::Call;
 use scan_kernels::{Meter, Sequential};
 use std::alloc::Global;
+use vector_memory::Edition;
 
 /// Requests for the calls of these lines, by the callers 0, 1, 2 and so on. None where a line is no call, too.
 fn batch_of(alloc: Global, lines: &[&str]) -> Option<Vec<Request>>
@@ -27,7 +28,7 @@ fn batch_of(alloc: Global, lines: &[&str]) -> Option<Vec<Request>>
         if requests.len() == BATCH_LIMIT {
             return None;
         }
-        let call = Call::read(alloc, line.as_bytes()).ok()?;
+        let call = Call::read_in(alloc, line.as_bytes(), Edition::Two).ok()?;
         let caller = requests.len() as u64;
         let job = Job::One(call);
         requests.push(Request { caller, job }).ok()?;

@@ -83,7 +83,7 @@ fn replay_entries(
 
 /// Runs a book's history call by call, and notes what is told of each place. Whether the book has the memory that this ends with.
 fn replays(alloc: Global, replay: &mut Vec<Told>, book: &Book) -> Option<bool> {
-    let mut memory = Memory::new(alloc, book.room()).ok()?;
+    let mut memory = Memory::with_edition(alloc, book.room(), book.edition()).ok()?;
     replay_entries(alloc, &mut memory, replay, book)?;
     hold_the_same(alloc, &memory, book.memory())
 }

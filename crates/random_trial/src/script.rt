@@ -4,6 +4,7 @@ use crate::chance::Chance;
 use crate::patterns;
 use crate::writer::Writer;
 use std::alloc::{AllocError, Global};
+use vector_memory::Edition;
 
 /// How many callers a script has.
 pub(crate) const CALLERS: usize = 5;
@@ -13,6 +14,8 @@ pub(crate) const CALLERS: usize = 5;
 pub(crate) struct Script {
     /// The room of the memory that it runs on.
     pub room: u64,
+    /// Its edition: in the second, names are long.
+    pub edition: Edition,
     /// Calls that set the names, before all others.
     pub opening: String,
     /// The calls behind them, in turns of the callers.
@@ -26,8 +29,13 @@ const ROOMS: [u64; 4] = [60, 200, 400, 67_108_864];
 const CALLS: u64 = 120;
 
 /// Calls that set each name of each kind.
-fn opening(alloc: Global, chance: &mut Chance, usual: u64) -> Result<String, AllocError> {
-    let mut writer = Writer::new(alloc, chance, usual);
+fn opening(
+    alloc: Global,
+    chance: &mut Chance,
+    usual: u64,
+    edition: Edition,
+) -> Result<String, AllocError> {
+    let mut writer = Writer::new(alloc, chance, usual, edition);
     for pattern in &patterns::OPENING {
         writer.write_call(pattern)?;
     }
@@ -35,9 +43,15 @@ fn opening(alloc: Global, chance: &mut Chance, usual: u64) -> Result<String, All
 }
 
 /// So many calls.
-fn calls(alloc: Global, chance: &mut Chance, usual: u64, count: u64) -> Result<String, AllocError> {
+fn calls(
+    alloc: Global,
+    chance: &mut Chance,
+    usual: u64,
+    edition: Edition,
+    count: u64,
+) -> Result<String, AllocError> {
     let chosen = patterns::chosen(alloc, chance, count)?;
-    let mut writer = Writer::new(alloc, chance, usual);
+    let mut writer = Writer::new(alloc, chance, usual, edition);
     for pattern in &chosen {
         writer.write_call(pattern)?;
     }
@@ -50,10 +64,16 @@ impl Script {
         let usual = chance.below(41);
         let room = ROOMS.get(chance.below(4) as usize).copied()?;
         let count = chance.below(CALLS + 1);
+        let edition = if chance.comes_once_in(2) {
+            Edition::Two
+        } else {
+            Edition::One
+        };
         Some(Script {
             room,
-            opening: opening(alloc, chance, usual).ok()?,
-            calls: calls(alloc, chance, usual, count).ok()?,
+            edition,
+            opening: opening(alloc, chance, usual, edition).ok()?,
+            calls: calls(alloc, chance, usual, edition, count).ok()?,
         })
     }
 

@@ -2,7 +2,7 @@
 
 use cvl_text::{Call, Reply, write_value};
 use std::alloc::Global;
-use vector_memory::{Memory, Name, Value};
+use vector_memory::{Edition, Memory, Name, Value};
 
 /// A call with all its names, numbers and items.
 pub(crate) fn call_text(alloc: Global, call: &Call) -> Option<String> {
@@ -11,7 +11,7 @@ pub(crate) fn call_text(alloc: Global, call: &Call) -> Option<String> {
 
 /// The call of a line likewise. None where the line is no call, too.
 pub(crate) fn line_text(alloc: Global, line: &str) -> Option<String> {
-    let call = Call::read(alloc, line.as_bytes()).ok()?;
+    let call = Call::read_in(alloc, line.as_bytes(), Edition::Two).ok()?;
     call_text(alloc, &call)
 }
 
@@ -24,7 +24,7 @@ pub(crate) fn text_of(alloc: Global, reply: &Reply) -> Option<Vec<u8>> {
 
 /// A line for a name and its value, behind the text.
 fn write_entry(text: &mut Vec<u8>, name: &Name, value: &Value) -> Option<()> {
-    text.extend_from_slice(name.text()).ok()?;
+    text.extend_from_slice(name.text().bytes()).ok()?;
     text.push(b' ').ok()?;
     write_value(value, text).ok()?;
     text.push(b'\n').ok()

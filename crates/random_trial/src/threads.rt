@@ -12,13 +12,19 @@ use std::alloc::Global;
 use std::sync::Wait;
 use std::thread;
 use std::thread::Threads;
+use vector_memory::Edition;
 
 /// A machine for the callers of a script, and one caller more, which opens and closes it.
-fn machine(alloc: Global, room: u64) -> Option<(Shared, Vec<Caller>, Caller)>
+fn machine(alloc: Global, room: u64, edition: Edition) -> Option<(Shared, Vec<Caller>, Caller)>
     ensures workers { IfSome result (λ m. All (λ c. (c.machine ≡ m.0) × IsIdle c) m.1.items) }
     ensures last { IfSome result (λ m. (m.2.machine ≡ m.0) × IsIdle m.2) }
 {
-    let (shared, mut callers) = Shared::new(alloc, CALLERS as u64 + 1, room).ok()?;
+    let (shared, mut callers) = Shared::with_edition(
+        alloc,
+        CALLERS as u64 + 1,
+        room,
+        edition,
+    ).ok()?;
     let last = callers.pop()?;
     Some((shared, callers, last))
 }
@@ -37,7 +43,7 @@ fn call_line(
     ensures machine { caller.new.machine ≡ shared.now }
     ensures idle { IsIdle caller.new }
 {
-    let call = Call::read(alloc, line.as_bytes()).ok()?;
+    let call = Call::read_in(alloc, line.as_bytes(), Edition::Two).ok()?;
     let text = call_text(alloc, &call)?;
     let (place, reply) = shared.call(rt, alloc, caller, call).ok()?;
     note(alloc, told, caller.number() as u64, text, place, &reply)
@@ -130,7 +136,7 @@ pub(crate) fn is_right<R: Threads + Wait + Sync>(
     alloc: Global,
     script: &Script,
 ) -> Option<bool> {
-    let (shared, callers, mut last) = machine(alloc, script.room)?;
+    let (shared, callers, mut last) = machine(alloc, script.room, script.edition)?;
     let told = call_script(rt, alloc, &shared, callers, &mut last, script)?;
     let book = shared.close(last).ok()?;
     is_told_right(alloc, &book, &told)

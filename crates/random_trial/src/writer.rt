@@ -3,6 +3,7 @@
 
 use crate::chance::Chance;
 use std::alloc::{AllocError, Global};
+use vector_memory::Edition;
 
 /// A text that grows by calls.
 #[derive(Drop)]
@@ -11,6 +12,8 @@ pub(crate) struct Writer<'a> {
     chance: &'a mut Chance,
     /// How long most lists are.
     usual: u64,
+    /// What stands between the letter of a name and its number: much in edition 2.
+    between: &'static str,
     text: String,
 }
 
@@ -41,12 +44,17 @@ fn shuffled(alloc: Global, chance: &mut Chance, length: u64) -> Result<Vec<i64>,
 }
 
 impl<'a> Writer<'a> {
-    /// An empty text of a script whose lists are mostly so long.
-    pub fn new(alloc: Global, chance: &'a mut Chance, usual: u64) -> Writer<'a> {
+    /// An empty text of a script of an edition, whose lists are mostly so long.
+    pub fn new(alloc: Global, chance: &'a mut Chance, usual: u64, edition: Edition) -> Writer<'a> {
+        let between = match edition {
+            Edition::One => "",
+            Edition::Two => "_long_name_of_edition_2_",
+        };
         Writer {
             alloc,
             chance,
             usual,
+            between,
             text: String::new(alloc),
         }
     }
@@ -97,8 +105,9 @@ impl<'a> Writer<'a> {
     fn write_name(&mut self, letter: char) -> Result<(), AllocError> {
         let (name, count) = self.kind(letter);
         let number = self.chance.below(count);
+        let between = self.between;
         self.text
-            .push_str(&format!(in self.alloc; "{name}{number}")?)
+            .push_str(&format!(in self.alloc; "{name}{between}{number}")?)
     }
 
     /// Writes a number, and a space before it.

@@ -15,8 +15,8 @@ use crate::gate::Gate;
 use crate::settle::{settle, settle_nothing};
 use crate::settled::Settled;
 use crate::work::{Worked, work};
-use combiner::{Caller, MakeFault, Shared};
 use call_history::Job;
+use combiner::{Caller, MakeFault, Shared};
 use script_lines::{RunFault, Script};
 use segment_desc::OutOfMemory;
 use std::alloc::Global;
@@ -225,12 +225,11 @@ pub fn run_threads<R: Threads + Wait + Sync, G: Gate + Sync>(
     } = script;
     let bounds = edition.bounds(room);
     let count = scripts.len();
-    let (machine, callers) =
-        match Shared::with_edition(alloc, count.max(1) as u64, room, edition) {
-            Ok(made) => made,
-            Err(MakeFault::OutOfMemory) => return Err(RunFault::OutOfMemory),
-            Err(_) => unreachable!(),
-        };
+    let (machine, callers) = match Shared::with_edition(alloc, count.max(1) as u64, room, edition) {
+        Ok(made) => made,
+        Err(MakeFault::OutOfMemory) => return Err(RunFault::OutOfMemory),
+        Err(_) => unreachable!(),
+    };
     if count == 0 {
         return settle_nothing(alloc, machine, bounds, callers);
     }

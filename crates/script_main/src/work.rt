@@ -142,7 +142,16 @@ pub(crate) fn work<G: Gate>(
     };
     let mut turn = 0;
     for job in script {
-        take_turn(rt, alloc, shared, &mut caller, job, turn, gate, &mut replies)?;
+        take_turn(
+            rt,
+            alloc,
+            shared,
+            &mut caller,
+            job,
+            turn,
+            gate,
+            &mut replies,
+        )?;
         turn += 1;
     }
     let _ = gate.before(worker, turn);

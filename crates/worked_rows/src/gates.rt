@@ -1,9 +1,9 @@
 //! Worker threads with gates that hold them or stop them.
 
 use crate::program::whole;
-use cvl_text::{Call, Reply};
+use cvl_text::Reply;
 use scan_kernels::Sequential;
-use script_main::{Gate, ReadSource, RunFault, Settled, read_script, run_threads};
+use script_main::{Gate, ReadSource, RunFault, Script, Settled, read_script, run_threads};
 use std::alloc::{Alloc, Global};
 use std::process::Abort;
 use std::sync::Wait;
@@ -25,8 +25,8 @@ fn waits_for(word: &AtomicU64) -> bool {
     false
 }
 
-/// The calls of a script.
-fn scripts_of(rt: &impl Abort, alloc: Global, bytes: &[u8]) -> Vec<Vec<Call>> {
+/// The script of these bytes.
+fn script_of(rt: &impl Abort, alloc: Global, bytes: &[u8]) -> Script {
     let mut source = ReadSource::new(whole(bytes, 1000));
     read_script(alloc, &mut source).expect(rt, "no script")
 }
@@ -70,9 +70,9 @@ fn run_through<G: Gate + Sync>(
     script: &[u8],
     gate: &G,
 ) -> Result<Came, RunFault> {
-    let scripts = scripts_of(rt, rt.alloc(), script);
-    assert!(rt; scripts.len() <= 64);
-    let settled = run_threads(rt, rt.alloc(), scripts, 100, gate)?;
+    let script = script_of(rt, rt.alloc(), script);
+    assert!(rt; script.workers.len() <= 64);
+    let settled = run_threads(rt, rt.alloc(), script, 100, gate)?;
     Ok(came_of(rt, rt.alloc(), settled))
 }
 
@@ -249,6 +249,21 @@ fn one_more_turn_than_calls(rt: HostRuntime) {
     assert!(rt; came.history == 5);
     assert!(rt; gate.asked.load(Ordering::SeqCst) == 8);
     assert!(rt; gate.turns.load(Ordering::SeqCst) == 9);
+}
+
+/// A block is one turn: the workers are asked for it, and once more behind it.
+#[test]
+fn a_block_is_a_turn(rt: HostRuntime) {
+    let gate = Counts {
+        asked: AtomicU64::new(0),
+        turns: AtomicU64::new(0),
+    };
+    let script = b"cvl 2\n0: {\n0: a = z 1\n0: get a\n0: }\n1: b = z 2\n";
+    let came = settle(&rt, script, &gate);
+    assert!(rt; came.history == 3);
+    assert!(rt; came.replies.as_slice() == [2, 1].as_slice());
+    assert!(rt; gate.asked.load(Ordering::SeqCst) == 4);
+    assert!(rt; gate.turns.load(Ordering::SeqCst) == 2);
 }
 
 /// For no scripts there is no worker, and no gate is asked.

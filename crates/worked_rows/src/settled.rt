@@ -2,50 +2,75 @@
 
 use crate::program::{whole, writer};
 use crate::streams::{Full, Pieces, Short};
-use call_history::{Book, CALLER_LIMIT};
-use cvl_text::{Call, Reply};
-use scan_kernels::Sequential;
-use script_main::{ReadSource, RunFault, Settled, WriteSink, read_script, write_report};
+use call_history::{BLOCK_LIMIT, Book, CALLER_LIMIT, Job};
+use cvl_text::Reply;
+use scan_kernels::{Meter, Sequential};
+use script_main::{ReadSource, RunFault, Script, Settled, WriteSink, read_script, write_report};
 use std::alloc::{Alloc, Global};
 use std::process::Abort;
 
-/// The calls of a script, or why it was not read.
-fn calls_of(alloc: Global, reader: Pieces<'_>) -> Result<Vec<Vec<Call>>, RunFault> {
+/// A script, or why it was not read.
+fn script_of(alloc: Global, reader: Pieces<'_>) -> Result<Script, RunFault> {
     let mut source = ReadSource::new(reader);
     read_script(alloc, &mut source)
 }
 
-/// Runs the calls of the callers on a book of this room, caller after caller.
-fn settled(rt: &impl Abort, alloc: Global, room: u64, callers: Vec<Vec<Call>>) -> Settled {
-    assert!(rt; 1 <= room && room <= 1000 && callers.len() <= CALLER_LIMIT);
-    let mut book = Book::new(alloc, room).expect(rt, "memory");
+/// Runs the jobs of the callers on a book of this room, caller after caller.
+fn settled(rt: &impl Abort, alloc: Global, room: u64, script: Script) -> Settled {
+    assert!(rt; 1 <= room && room <= 1000 && script.workers.len() <= CALLER_LIMIT);
+    let mut book = Book::with_edition(alloc, room, script.edition).expect(rt, "memory");
     let mut replies = Vec::new(alloc);
-    for calls in callers {
+    for jobs in script.workers {
         let caller = replies.len();
         assert!(rt; caller < CALLER_LIMIT);
-        let own = run_calls(rt, alloc, &mut book, caller as u64, calls);
+        let own = run_jobs(rt, alloc, &mut book, caller as u64, jobs);
         replies.push(own).expect(rt, "memory");
     }
     Settled { replies, book }
 }
 
-/// The replies to the calls of a caller.
-fn run_calls(
+/// The replies to the jobs of a caller.
+fn run_jobs(
     rt: &impl Abort,
     alloc: Global,
     book: &mut Book,
     caller: u64,
-    calls: Vec<Call>,
+    jobs: Vec<Job>,
 ) -> Vec<Reply> {
     assert!(rt; caller < CALLER_LIMIT as u64);
     let mut replies = Vec::new(alloc);
-    for call in calls {
-        let Ok((_, reply)) = book.run(&Sequential, alloc, caller, call) else {
-            panic!(rt; "memory");
-        };
-        replies.push(reply).expect(rt, "memory");
+    for job in jobs {
+        run_job(rt, alloc, book, caller, job, &mut replies);
     }
     replies
+}
+
+/// Runs a job, and puts the replies to it behind the others.
+fn run_job(
+    rt: &impl Abort,
+    alloc: Global,
+    book: &mut Book,
+    caller: u64,
+    job: Job,
+    replies: &mut Vec<Reply>,
+) {
+    assert!(rt; caller < CALLER_LIMIT as u64);
+    match job {
+        Job::One(call) => {
+            let Ok((_, reply)) = book.run(&Sequential, alloc, caller, call) else {
+                panic!(rt; "memory");
+            };
+            replies.push(reply).expect(rt, "memory");
+        }
+        Job::Many(calls) => {
+            assert!(rt; 1 <= calls.len() && calls.len() <= BLOCK_LIMIT);
+            let ran = book.run_block(&Sequential, alloc, &mut Meter::new(), caller, calls);
+            let Ok((_, mut own)) = ran else {
+                panic!(rt; "memory");
+            };
+            replies.append(&mut own).expect(rt, "memory");
+        }
+    }
 }
 
 /// Asserts that the report of a settled run ends so, and that the writer took this text of it.
@@ -63,10 +88,10 @@ fn expect_written(
     assert!(rt; writer.taken.as_slice() == text);
 }
 
-/// Runs the calls of a script, however it is cut by reads, caller after caller.
+/// Runs the jobs of a script, however it is cut by reads, caller after caller.
 fn settled_script(rt: &impl Abort, alloc: Global, script: &[u8], step: usize) -> Settled {
-    let callers = calls_of(alloc, whole(script, step)).expect(rt, "no script");
-    settled(rt, alloc, 1000, callers)
+    let script = script_of(alloc, whole(script, step)).expect(rt, "no script");
+    settled(rt, alloc, 1000, script)
 }
 
 /// Asserts that a script that is read and then run caller after caller is reported by this text, however it is cut.
@@ -81,7 +106,7 @@ fn expect_report(rt: &impl Abort, alloc: Global, script: &[u8], text: &[u8]) {
 /// Asserts that a script, however it is cut by reads, is no script for this reason.
 fn expect_stop(rt: &impl Abort, alloc: Global, script: &[u8], fault: &RunFault) {
     for step in [1, 2, 7, 100_000] {
-        let read = calls_of(alloc, whole(script, step));
+        let read = script_of(alloc, whole(script, step));
         assert!(rt; read.err().as_ref() == Some(fault));
     }
 }
@@ -103,14 +128,14 @@ fn reads_callers_in_mixed_order(rt: HostRuntime) {
 #[test]
 fn gives_a_list_to_each_caller(rt: HostRuntime) {
     let script = b"2: get a\n5: get a\n2: get b\n";
-    let callers = calls_of(rt.alloc(), whole(script, 4)).expect(&rt, "no script");
+    let script = script_of(rt.alloc(), whole(script, 4)).expect(&rt, "no script");
     let mut counts = Vec::new(rt.alloc());
-    for calls in &callers {
-        counts.push(calls.len()).expect(&rt, "memory");
+    for jobs in &script.workers {
+        counts.push(jobs.len()).expect(&rt, "memory");
     }
     assert!(rt; counts.as_slice() == [0, 0, 2, 0, 0, 1].as_slice());
-    let callers = calls_of(rt.alloc(), whole(b"# none\n\n", 4));
-    assert!(rt; callers.expect(&rt, "no script").is_empty());
+    let script = script_of(rt.alloc(), whole(b"# none\n\n", 4));
+    assert!(rt; script.expect(&rt, "no script").workers.is_empty());
 }
 
 #[test]
@@ -143,7 +168,7 @@ fn fails_to_read_a_script_at_each_call(rt: HostRuntime) {
                 step,
                 fails: Some(call as u64),
             };
-            let read = calls_of(rt.alloc(), reader);
+            let read = script_of(rt.alloc(), reader);
             assert!(rt; read.err() == Some(RunFault::Read));
         }
     }
@@ -158,7 +183,7 @@ fn reads_a_bad_line_before_a_failed_read(rt: HostRuntime) {
             step,
             fails: Some(1),
         };
-        let read = calls_of(rt.alloc(), reader);
+        let read = script_of(rt.alloc(), reader);
         assert!(rt; read.err() == Some(fault));
     }
 }

@@ -34,7 +34,8 @@ const LEFT_BEHIND: &[u8] = b"b z 2\na z 7 8\nc z 4\n";
 fn holds(rt: &impl Abort, alloc: Global, book: &Book, wanted: &[u8]) -> bool {
     let mut text = Vec::new(alloc);
     for (name, value) in book.memory().iter() {
-        text.extend_from_slice(name.text()).expect(rt, "memory");
+        text.extend_from_slice(name.text().bytes())
+            .expect(rt, "memory");
         text.push(b' ').expect(rt, "memory");
         write_value(value, &mut text).expect(rt, "memory");
         text.push(b'\n').expect(rt, "memory");
