@@ -8,7 +8,6 @@ use Rattle.cvl_text.specs.Tasks.{Task}
 use Rattle.call_history.specs.declared.request.Job.{Job}
 use Rattle.call_history.specs.declared.request.Job.TheVariants as jobs
 use Rattle.call_history.specs.Fits.{IsLawfulJob}
-use Rattle.script_lines.specs.declared.deed.Deed.TheVariants as deeds
 use Rattle.script_lines.specs.Scripts.{Stage, AtStart, Line, Skipped, Bad, Heads, Asks, Opens, Adds, Closes, line_of, stage_after_line, stage_after}
 use Rattle.script_lines.specs.Asks.{is_quiet, job_line}
 use Rattle.script_lines.specs.Readings.{told, jobs_in, jobs_from, jobs_at, jobs_done, callers_in, caller_count, AreLawful, AreJobsOf, AddsJob, AddsLine}
@@ -22,10 +21,10 @@ get_or-push_none (l ∷ ls) (suc k) = get_or-push_none ls k
 
 -- one more job of a caller
 pub jobs_at-set : (lists : List (List Job)) (caller k : ℕ) (job : Job) → caller < length lists
-    → jobs_at k (set lists caller (get_or lists caller [] ++ job ∷ [])) ≡ jobs_at k lists ++ jobs_done k (deeds.Does caller job)
+    → jobs_at k (set lists caller (get_or lists caller [] ++ job ∷ [])) ≡ jobs_at k lists ++ jobs_done k caller job
 jobs_at-set lists caller k job within = by (eqb caller k) refl
   where
-    by : (t : Bool) → eqb caller k ≡ t → jobs_at k (set lists caller (get_or lists caller [] ++ job ∷ [])) ≡ jobs_at k lists ++ jobs_done k (deeds.Does caller job)
+    by : (t : Bool) → eqb caller k ≡ t → jobs_at k (set lists caller (get_or lists caller [] ++ job ∷ [])) ≡ jobs_at k lists ++ jobs_done k caller job
     by true e =
         let same : caller ≡ k = eqb-true caller k e in
         let own = get_or lists caller [] in
@@ -62,7 +61,7 @@ callers-job : (caller : ℕ) (job : Job) → callers_in (job_line caller job) �
 callers-job caller (jobs.One call) = refl
 callers-job caller (jobs.Many calls) = refl
 
-told-job : (k caller : ℕ) (job : Job) → map told (jobs_done k (deeds.Does caller job)) ≡ jobs_in k (job_line caller job)
+told-job : (k caller : ℕ) (job : Job) → map told (jobs_done k caller job) ≡ jobs_in k (job_line caller job)
 told-job k caller (jobs.One call) = by (eqb caller k)
   where
     by : (t : Bool) → map told (cond t (jobs.One call ∷ []) []) ≡ cond t (told (jobs.One call) ∷ []) []
@@ -74,20 +73,20 @@ told-job k caller (jobs.Many calls) = by (eqb caller k)
     by true = refl
     by false = refl
 
-lawful-job : (k caller : ℕ) (job : Job) → IsLawfulJob job → AllByRecursion IsLawfulJob (jobs_done k (deeds.Does caller job))
+lawful-job : (k caller : ℕ) (job : Job) → IsLawfulJob job → AllByRecursion IsLawfulJob (jobs_done k caller job)
 lawful-job k caller job lawful = by (eqb caller k)
   where
     by : (t : Bool) → AllByRecursion IsLawfulJob (cond t (job ∷ []) [])
     by true = (lawful, tt)
     by false = tt
 
-pub adds-job : (old new : List (List Job)) (caller : ℕ) (job : Job) → IsLawfulJob job → AddsJob old new (deeds.Does caller job) → AddsLine old new (job_line caller job)
+pub adds-job : (old new : List (List Job)) (caller : ℕ) (job : Job) → IsLawfulJob job → AddsJob old new caller job → AddsLine old new (job_line caller job)
 adds-job old new caller job lawful a = record {
   count = a.count ∙ ap (λ (n : ℕ). max (length old) n) (sym (callers-job caller job));
-  jobs = λ k. ap (map told) (a.jobs k) ∙ map-append told (jobs_at k old) (jobs_done k (deeds.Does caller job))
+  jobs = λ k. ap (map told) (a.jobs k) ∙ map-append told (jobs_at k old) (jobs_done k caller job)
       ∙ ap (λ (t : List (Bool × List Task)). map told (jobs_at k old) ++ t) (told-job k caller job);
   lawful = λ all k. subst (λ (js : List Job). AllByRecursion IsLawfulJob js) (sym (a.jobs k))
-      (all-append IsLawfulJob (jobs_at k old) (jobs_done k (deeds.Does caller job)) (all k) (lawful-job k caller job lawful));
+      (all-append IsLawfulJob (jobs_at k old) (jobs_done k caller job) (all k) (lawful-job k caller job lawful));
 }
 
 jobs_from-append : (k : ℕ) (stage : Stage) (ls ms : List (List ℕ)) → jobs_from k stage (ls ++ ms) ≡ jobs_from k stage ls ++ jobs_from k (stage_after stage ls) ms

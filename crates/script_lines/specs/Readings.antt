@@ -6,8 +6,6 @@ use Rattle.cvl_text.specs.Tasks.{Task, task_of}
 use Rattle.call_history.specs.declared.request.Job.{Job}
 use Rattle.call_history.specs.declared.request.Job.TheVariants as jobs
 use Rattle.call_history.specs.Fits.{calls_of, IsLawfulJob}
-use Rattle.script_lines.specs.declared.deed.Deed.{Deed}
-use Rattle.script_lines.specs.declared.deed.Deed.TheVariants as deeds
 use Rattle.script_lines.specs.declared.fault.InputFault.{InputFault}
 use Rattle.script_lines.specs.declared.fault.RunFault.{RunFault}
 use Rattle.script_lines.specs.declared.fault.RunFault.TheVariants as stops
@@ -75,20 +73,13 @@ pub record AreJobsOf (lists : List (List Job)) (lines : List (List ℕ)) : Type 
   pub count : length lists ≡ caller_count AtStart lines
   pub jobs : (k : ℕ) → map told (jobs_at k lists) ≡ jobs_from k AtStart lines
 
--- the list of caller k has become longer by what is done at a line
-abbrev pub jobs_done : ℕ → Deed → List Job
-jobs_done k deeds.Nothing = []
-jobs_done k deeds.Renews = []
-jobs_done k (deeds.Does caller job) = if caller == k then job ∷ [] else []
+-- what a job of a caller adds to the list of caller k
+abbrev pub jobs_done : ℕ → ℕ → Job → List Job
+jobs_done k caller job = if caller == k then job ∷ [] else []
 
-abbrev pub callers_done : Deed → ℕ
-callers_done deeds.Nothing = 0
-callers_done deeds.Renews = 0
-callers_done (deeds.Does caller job) = caller + 1
-
-pub record AddsJob (old new : List (List Job)) (deed : Deed) : Type 0 where
-  pub count : length new ≡ max (length old) (callers_done deed)
-  pub jobs : (k : ℕ) → jobs_at k new ≡ jobs_at k old ++ jobs_done k deed
+pub record AddsJob (old new : List (List Job)) (caller : ℕ) (job : Job) : Type 0 where
+  pub count : length new ≡ max (length old) (caller + 1)
+  pub jobs : (k : ℕ) → jobs_at k new ≡ jobs_at k old ++ jobs_done k caller job
 
 -- the lists have become longer by what a line asks for
 pub record AddsLine (old new : List (List Job)) (line : Line) : Type 0 where

@@ -5,20 +5,20 @@ ghost use Rattle.std.specs.List.{flat_map};
 ghost use Rattle.vector_memory.specs.States.{bounds_in, empty};
 ghost use Rattle.cvl_text.specs.Answers.{answer_of};
 ghost use Rattle.cvl_text.specs.Tasks.{task_of};
+ghost use Rattle.cvl_text.specs.Lines.{task_in};
 ghost use Rattle.cvl_text.specs.Texts.{IsContinued};
+ghost use Rattle.cvl_text.specs.Words.{words_of};
 ghost use Rattle.cvl_calls.specs.Steps.{stepped};
 ghost use Rattle.call_history.specs.Books.{memory_of};
 ghost use Rattle.call_history.specs.Blocks.{block_limit};
-ghost use Rattle.call_history.specs.Fits.{IsLawfulJob};
-ghost use Rattle.script_lines.specs.Asks.{job_line};
-ghost use Rattle.script_lines.specs.Scripts.{Bad, Heads, Closes, line_of, is_good, stage_after_line, memory_after_line, memory_after_tasks, answers_to, line_text, reply_line};
+ghost use Rattle.script_lines.specs.Scripts.{Bad, asked, line_of, is_good, stage_after_line, memory_after_line, memory_after_tasks, answers_to, line_text, reply_line};
 ghost use Rattle.script_lines.specs.Stages.{stage_of};
 
 use crate::deed::Deed;
-use crate::line::LineFault;
+use crate::line::{LineFault, read_call};
 use crate::progress::Progress;
 use crate::step::step;
-use call_history::{Book, CALLER_LIMIT, Job};
+use call_history::{Book, CALLER_LIMIT};
 use cvl_text::{Call, Reply};
 use scan_kernels::{Execution, Meter};
 use segment_desc::OutOfMemory;
@@ -99,6 +99,29 @@ fn serve_call(
     }
 }
 
+/// Runs the call that a text says in an edition, and writes its reply behind what is there. On an error nothing is written.
+fn serve_text(
+    execution: &impl Execution,
+    alloc: Global,
+    book: &mut Book,
+    out: &mut Vec<u8>,
+    edition: Edition,
+    caller: u64,
+    said: &[u8],
+) -> Result<(), LineFault>
+    requires { caller < CALLER_LIMIT }
+    ensures good { OnOk result (IsTrue (is_good (asked caller (task_in edition (words_of said.now))))) }
+    ensures memory { OnOk result (memory_of book.new
+        ≡ memory_after_line (memory_of book.old) (asked caller (task_in edition (words_of said.now)))) }
+    ensures text { OnOk result (out.new.items
+        ≡ out.old.items ++ line_text (memory_of book.old) (asked caller (task_in edition (words_of said.now)))) }
+    ensures bad { IsErrOf result LineFault.Bad → asked caller (task_in edition (words_of said.now)) ≡ Bad }
+    ensures err { OnErr result (out.new.items ≡ out.old.items) }
+{
+    let call = read_call(alloc, edition, said)?;
+    serve_call(execution, alloc, book, out, caller, call)
+}
+
 /// Runs a block, and writes its replies behind what is there. On an error nothing is written.
 fn serve_block(
     execution: &impl Execution,
@@ -119,28 +142,6 @@ fn serve_block(
     match book.run_block(execution, alloc, &mut Meter::new(), caller, calls) {
         Ok(answer) => write_lines(out, caller, &answer.1),
         Err(_) => Err(LineFault::OutOfMemory),
-    }
-}
-
-/// Does a job, and writes the replies behind what is there. On an error nothing is written.
-fn serve_job(
-    execution: &impl Execution,
-    alloc: Global,
-    book: &mut Book,
-    out: &mut Vec<u8>,
-    caller: u64,
-    job: Job,
-) -> Result<(), LineFault>
-    requires caller { caller < CALLER_LIMIT }
-    requires lawful { IsLawfulJob job }
-    ensures memory { OnOk result (memory_of book.new ≡ memory_after_line (memory_of book.old) (job_line caller job)) }
-    ensures text { OnOk result (out.new.items ≡ out.old.items ++ line_text (memory_of book.old) (job_line caller job)) }
-    ensures err { OnErr result (out.new.items ≡ out.old.items) }
-    ensures fault { IsOkUnless result LineFault.OutOfMemory }
-{
-    match job {
-        Job::One(call) => serve_call(execution, alloc, book, out, caller, call),
-        Job::Many(calls) => serve_block(execution, alloc, book, out, caller, calls),
     }
 }
 
@@ -180,6 +181,9 @@ pub(crate) fn serve_line(
     match step(alloc, progress, line)? {
         Deed::Nothing => Ok(()),
         Deed::Renews => renew(alloc, book),
-        Deed::Does(caller, job) => serve_job(execution, alloc, book, out, caller, job),
+        Deed::Asks(edition, caller, said) => {
+            serve_text(execution, alloc, book, out, edition, caller, said)
+        }
+        Deed::Closes(caller, calls) => serve_block(execution, alloc, book, out, caller, calls),
     }
 }

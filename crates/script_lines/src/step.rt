@@ -1,17 +1,14 @@
 //! A line of a script at the stage that the script is at: what is to be done, and the stage behind it.
 
-ghost use Rattle.std.specs.Prelude.{◌≡◌, ◌<◌, IfOk, OnOk};
-ghost use Rattle.cvl_text.specs.Lines.{task_in};
-ghost use Rattle.cvl_text.specs.Words.{words_of};
-ghost use Rattle.script_lines.specs.Scripts.{Outside, AtStart, asked, is_head, line_of, plain_line, stage_after_line, edition_at};
+ghost use Rattle.std.specs.Prelude.{◌≡◌, IfOk, OnOk};
+ghost use Rattle.script_lines.specs.Scripts.{Outside, AtStart, is_head, line_of, plain_line, stage_after_line, edition_at};
 ghost use Rattle.script_lines.specs.Asks.{IsDeed, IsLawfulDeed};
 ghost use Rattle.script_lines.specs.Stages.{stage_of};
 
 use crate::deed::Deed;
-use crate::line::{LineFault, ask_in, is_alone, read_call};
+use crate::line::{LineFault, ask_in, is_alone};
 use crate::open_block::OpenBlock;
 use crate::progress::Progress;
-use call_history::{CALLER_LIMIT, Job};
 use std::alloc::Global;
 use vector_memory::Edition;
 
@@ -22,29 +19,24 @@ fn is_head(line: &[u8]) -> bool
     line == b"cvl 2".as_slice()
 }
 
-/// The single call that a text asks for.
-fn single(alloc: Global, edition: Edition, caller: u8, text: &[u8]) -> Result<Deed, LineFault>
-    requires { caller < CALLER_LIMIT }
-    ensures deed { IsDeed result (asked caller (task_in edition (words_of text.now))) }
-    ensures lawful { IfOk result IsLawfulDeed }
-{
-    let call = read_call(alloc, edition, text)?;
-    Ok(Deed::Does(u64::from(caller), Job::One(call)))
-}
-
 /// What is to be done at a line of edition 1.
-fn first_edition(alloc: Global, line: &[u8]) -> Result<Deed, LineFault>
+#[inline(always)]
+fn first_edition(line: &[u8]) -> Result<Deed<'_>, LineFault>
     ensures deed { IsDeed result (plain_line (Outside Edition.One) line.now) }
     ensures lawful { IfOk result IsLawfulDeed }
 {
     match ask_in(line)? {
-        Some((caller, text)) => single(alloc, Edition::One, caller, text),
+        Some((caller, text)) => Ok(Deed::Asks(Edition::One, u64::from(caller), text)),
         None => Ok(Deed::Nothing),
     }
 }
 
 /// What is to be done at a line of edition 2 outside a block.
-fn second_edition(alloc: Global, progress: &mut Progress, line: &[u8]) -> Result<Deed, LineFault>
+fn second_edition<'a>(
+    alloc: Global,
+    progress: &mut Progress,
+    line: &'a [u8],
+) -> Result<Deed<'a>, LineFault>
     requires { stage_of progress.old ≡ Outside Edition.Two }
     ensures deed { IsDeed result (plain_line (Outside Edition.Two) line.now) }
     ensures stage { OnOk result (stage_of progress.new
@@ -58,12 +50,12 @@ fn second_edition(alloc: Global, progress: &mut Progress, line: &[u8]) -> Result
         *progress = Progress::Inside(OpenBlock::new(alloc, u64::from(caller)));
         return Ok(Deed::Nothing);
     }
-    single(alloc, Edition::Two, caller, text)
+    Ok(Deed::Asks(Edition::Two, u64::from(caller), text))
 }
 
 /// What is to be done at the first line.
 #[tactic(auto, using(crate::proofs::StageLemmas::one_line), unfolding(crate::specs::Scripts::line_of))]
-fn begin(alloc: Global, progress: &mut Progress, line: &[u8]) -> Result<Deed, LineFault>
+fn begin<'a>(progress: &mut Progress, line: &'a [u8]) -> Result<Deed<'a>, LineFault>
     ensures deed { IsDeed result (line_of AtStart line.now) }
     ensures stage { OnOk result (stage_of progress.new ≡ stage_after_line AtStart (line_of AtStart line.now)) }
     ensures lawful { IfOk result IsLawfulDeed }
@@ -73,27 +65,32 @@ fn begin(alloc: Global, progress: &mut Progress, line: &[u8]) -> Result<Deed, Li
         return Ok(Deed::Renews);
     }
     *progress = Progress::Outside(Edition::One);
-    first_edition(alloc, line)
+    first_edition(line)
 }
 
 /// Goes on by a line, and answers what is to be done at it.
 #[tactic(auto, using(crate::proofs::StageLemmas::one_line), unfolding(crate::specs::Scripts::line_of))]
-pub(crate) fn step(alloc: Global, progress: &mut Progress, line: &[u8]) -> Result<Deed, LineFault>
+#[inline(always)]
+pub(crate) fn step<'a>(
+    alloc: Global,
+    progress: &mut Progress,
+    line: &'a [u8],
+) -> Result<Deed<'a>, LineFault>
     ensures deed { IsDeed result (line_of (stage_of progress.old) line.now) }
     ensures stage { OnOk result (stage_of progress.new
         ≡ stage_after_line (stage_of progress.old) (line_of (stage_of progress.old) line.now)) }
     ensures lawful { IfOk result IsLawfulDeed }
 {
     match progress {
-        Progress::AtStart => begin(alloc, progress, line),
-        Progress::Outside(Edition::One) => first_edition(alloc, line),
+        Progress::AtStart => begin(progress, line),
+        Progress::Outside(Edition::One) => first_edition(line),
         Progress::Outside(Edition::Two) => second_edition(alloc, progress, line),
         Progress::Inside(block) => {
             let caller = block.caller;
             match block.take(alloc, line)? {
                 Some(calls) => {
                     *progress = Progress::Outside(Edition::Two);
-                    Ok(Deed::Does(caller, Job::Many(calls)))
+                    Ok(Deed::Closes(caller, calls))
                 }
                 None => Ok(Deed::Nothing),
             }

@@ -4,7 +4,6 @@ use Rattle.std.specs.Prelude.{Vec}
 use Rattle.std.specs.Global.{Global}
 use Rattle.std.specs.Vec.{with_item}
 use Rattle.call_history.specs.declared.request.Job.{Job}
-use Rattle.script_lines.specs.declared.deed.Deed.TheVariants.{Does}
 use Rattle.script_lines.specs.Readings.{lists_of, jobs_at, jobs_done}
 use Rattle.script_lines.proofs.JobLemmas.{jobs_at-set}
 use Rattle.script_lines.proofs.jobs.add_job.Goals as goal
@@ -28,5 +27,5 @@ returns c =
     let first : length (lists_of c.args.jobs.now) ≡ length c.args.jobs.now.items = length-map c.args.jobs.now.items (λ (v : Vec Job Global). v.items) in
     record {
       count = long ∙ omega (arith, said.count, mid.ok.0, c.args.jobs.now.ok.0);
-      jobs = λ k. ap (jobs_at k) put ∙ jobs_at-set lists caller k job inside ∙ ap (λ (t : List Job). t ++ jobs_done k (Does caller job)) (said.lists k);
+      jobs = λ k. ap (jobs_at k) put ∙ jobs_at-set lists caller k job inside ∙ ap (λ (t : List Job). t ++ jobs_done k caller job) (said.lists k);
     }
