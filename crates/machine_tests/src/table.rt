@@ -1,6 +1,8 @@
 //! Machines for the tests, and those that there cannot be.
 
 ghost use Rattle.std.specs.Prelude.{◌≡◌, All};
+ghost use Rattle.vector_memory.specs.States.{bounds_in};
+ghost use Rattle.vector_memory.specs.declared.edition.Edition.TheVariants.{One};
 ghost use Rattle.combiner.specs.Standing.{IsNewAt, callers_of};
 
 use combiner::{Caller, MakeFault, Shared};
@@ -10,7 +12,7 @@ use std::process::Abort;
 /// A machine with one caller.
 pub(crate) fn one(rt: &impl Abort, alloc: Global) -> (Shared, Caller)
     ensures size { callers_of result.0 ≡ 1 }
-    ensures caller { IsNewAt result.0 100 result.1 }
+    ensures caller { IsNewAt result.0 (bounds_in One 100) result.1 }
 {
     let (shared, mut callers) = Shared::new(alloc, 1, 100).expect(rt, "no machine");
     let caller = callers.pop().expect(rt, "no caller");
@@ -20,8 +22,8 @@ pub(crate) fn one(rt: &impl Abort, alloc: Global) -> (Shared, Caller)
 /// A machine with two callers.
 pub(crate) fn two(rt: &impl Abort, alloc: Global) -> (Shared, Caller, Caller)
     ensures size { callers_of result.0 ≡ 2 }
-    ensures first { IsNewAt result.0 100 result.1 }
-    ensures second { IsNewAt result.0 100 result.2 }
+    ensures first { IsNewAt result.0 (bounds_in One 100) result.1 }
+    ensures second { IsNewAt result.0 (bounds_in One 100) result.2 }
 {
     two_with(rt, alloc, 100)
 }
@@ -29,8 +31,8 @@ pub(crate) fn two(rt: &impl Abort, alloc: Global) -> (Shared, Caller, Caller)
 /// A machine with two callers, and room for so many items.
 pub(crate) fn two_with(rt: &impl Abort, alloc: Global, room: u64) -> (Shared, Caller, Caller)
     ensures size { callers_of result.0 ≡ 2 }
-    ensures first { IsNewAt result.0 room result.1 }
-    ensures second { IsNewAt result.0 room result.2 }
+    ensures first { IsNewAt result.0 (bounds_in One room) result.1 }
+    ensures second { IsNewAt result.0 (bounds_in One room) result.2 }
 {
     let (shared, mut callers) = Shared::new(alloc, 2, room).expect(rt, "no machine");
     let second = callers.pop().expect(rt, "no caller");
