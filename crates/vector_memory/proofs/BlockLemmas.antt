@@ -1,26 +1,28 @@
 -- A block's notes beside the values held. What the lists of two maps, one behind the other, show of a name (`lookup-append-left`
 -- and the like); the names that were not freed (`lookup-live`, `insert-live`, `remove-live`); a value in place of another
--- (`with_value-insert`); and that notes put back what was replaced (`restored-noted`, `restored-first`, `restored-known`).
-use Rattle.std.proofs.Common.{◌≡◌, ℕ, Bool, true, false, cond, eqb, List, [], ◌∷◌, ◌++◌, ◌||◌, Option, None, Some, refl, sym, ap, subst, ◌∙◌, rules}
-use Rattle.std.specs.Prelude.{is_some, Result, Ok, Err, OnOk, IsOk, length}
+-- (`put-held`); and that notes put back what was replaced (`restored-noted`, `restored-put`).
+use Rattle.std.proofs.Common.{◌≡◌, ℕ, zero, suc, ◌≤◌, Bool, true, false, cond, eqb, List, [], ◌∷◌, ◌++◌, ◌||◌, get_or, slice_get, Option, None, Some, refl, sym, ap, subst, ◌∙◌, rules}
+use Rattle.std.specs.Prelude.{is_some, IfSome, Result, Ok, Err, OnOk, IsOk, length}
 use Rattle.std.proofs.Common.{arith}
 use Rattle.std.specs.List.{AllByRecursion, IsDistinct}
-use Rattle.std.specs.Map.{lookup, keys_of, remove_entry}
+use Rattle.std.specs.Map.{lookup, keys_of, values_of, remove_entry}
 use Rattle.std.specs.Cmp.{IsEquivalence}
 use Rattle.std.specs.Cmp.Rules.{comparing}
 use Rattle.std.proofs.Math.Facts.{eqb_yes}
-use Rattle.std.proofs.lemmas.Bool.{eq-eqb}
+use Rattle.std.proofs.lemmas.Bool.{eq-eqb, eqb-true, eqb-false}
 use Rattle.std.proofs.lemmas.List.{append_assoc, append-nil}
 use Rattle.std.proofs.lemmas.Map.Keys.{IsDistinct-head, IsDistinct-tail}
-use Rattle.indexmap.specs.IndexMap.{insert_entry, insert_all}
-use Rattle.indexmap.proofs.MapLemmas.{absent_before, some_index}
+use Rattle.std.proofs.lemmas.Option.{get_or_from_slice_get}
+use Rattle.indexmap.specs.IndexMap.{insert_entry, insert_all, set_value_at}
+use Rattle.indexmap.proofs.MapLemmas.{Found-position, absent_before, insert_entry-first, some_index}
 use Rattle.std.specs.Prelude.{position, IfOk}
 use Rattle.std.proofs.lemmas.Cmp.{nat_list_eq_equiv}
 use Rattle.vector_memory.specs.declared.name.Name.{Name}
 use Rattle.vector_memory.specs.declared.value.Value.{Value}
 use Rattle.vector_memory.specs.Names.{same_name}
 use Rattle.vector_memory.specs.States.{NamedValues}
-use Rattle.vector_memory.specs.Blocks.{is_freed, live, with_value, restored}
+use Rattle.vector_memory.specs.Notes.{PlacedValues, is_noted}
+use Rattle.vector_memory.specs.Blocks.{is_freed, live, restored}
 
 -- names with one text are one
 pub same_text : (a b : List ℕ) → same_name a b ≡ true → a ≡ b
@@ -102,9 +104,9 @@ module _ (n : Name) where
   absent-behind : (e : Name × Value) (es : NamedValues) → IsDistinct same_name (keys_of (e ∷ es)) → same_name n e.0 ≡ true → lookup (same_name n) es ≡ None
   absent-behind e es distinct was = absent-from e.0 was es (IsDistinct-head same_name e.0 (keys_of es) distinct)
 
-pub no_keys : (freed : List Name) → length freed ≡ 0 → freed ≡ []
-no_keys [] e = refl
-no_keys (f ∷ fs) e = absurd (omega (arith, e))
+pub no_items : {A : Type 0} (xs : List A) → length xs ≡ 0 → xs ≡ []
+no_items [] e = refl
+no_items (x ∷ xs) e = absurd (omega (arith, e))
 
 -- nothing is freed
 pub live-none : (es : NamedValues) → live [] es ≡ es
@@ -131,6 +133,12 @@ module _ (freed : List Name) (n : Name) where
   module _ (held late : NamedValues) where
     pub shown-freed : is_freed freed n ≡ true → lookup (same_name n) (live freed held ++ late) ≡ lookup (same_name n) late
     shown-freed gone = lookup-append-right n (live freed held) late (lookup-live held ∙ ap (λ b. cond b None (lookup (same_name n) held)) gone)
+
+    pub shown-found : is_some (cond (is_freed freed n) None (lookup (same_name n) held)) ≡ true → lookup (same_name n) (live freed held ++ late) ≡ cond (is_freed freed n) None (lookup (same_name n) held)
+    shown-found there = lookup-append-left n (live freed held) late (ap is_some (lookup-live held) ∙ there) ∙ lookup-live held
+
+    pub shown-missing : cond (is_freed freed n) None (lookup (same_name n) held) ≡ None → lookup (same_name n) (live freed held ++ late) ≡ lookup (same_name n) late
+    shown-missing none = lookup-append-right n (live freed held) late (lookup-live held ∙ none)
 
     pub shown-held : (v : Value) → is_freed freed n ≡ false → lookup (same_name n) held ≡ Some v → lookup (same_name n) (live freed held ++ late) ≡ Some v
     shown-held v kept there =
@@ -173,60 +181,32 @@ module _ (freed : List Name) (n : Name) where
         by false false was gone rest = rw (grown e.0, gone, was) (ap (λ (later : NamedValues). e ∷ later) rest)
 
 -- a value in place of another
-module _ (n : Name) where
-  pub keys_of-with_value : (v : Value) (es : NamedValues) → keys_of (with_value es n v) ≡ keys_of es
-  keys_of-with_value v [] = refl
-  keys_of-with_value v (e ∷ es) = by (same_name n e.0) (keys_of-with_value v es)
-    where
-      by : (b : Bool) → keys_of (with_value es n v) ≡ keys_of es → keys_of (cond b (e.0, v) e ∷ with_value es n v) ≡ keys_of (e ∷ es)
-      by true rest = ap (λ (later : List Name). e.0 ∷ later) rest
-      by false rest = ap (λ (later : List Name). e.0 ∷ later) rest
+pub keys_of-set_value_at : (es : NamedValues) (i : ℕ) (v : Value) → keys_of (set_value_at es i v) ≡ keys_of es
+keys_of-set_value_at [] i v = refl
+keys_of-set_value_at (e ∷ es) zero v = refl
+keys_of-set_value_at (e ∷ es) (suc i) v = ap (λ (later : List Name). e.0 ∷ later) (keys_of-set_value_at es i v)
 
-  pub with_value-absent : (v : Value) (es : NamedValues) → lookup (same_name n) es ≡ None → with_value es n v ≡ es
-  with_value-absent v [] none = refl
-  with_value-absent v (e ∷ es) none = by (same_name n e.0) refl (λ h. with_value-absent v es h)
-    where
-      by : (b : Bool) → same_name n e.0 ≡ b → (lookup (same_name n) es ≡ None → with_value es n v ≡ es) → with_value (e ∷ es) n v ≡ e ∷ es
-      by true was next = absurd (let no : Some e.1 ≡ None = rw was at none in cc)
-      by false was next = rw was (ap (λ (rest : NamedValues). e ∷ rest) (next (rw was at none)))
+pub set-past : (es : NamedValues) (i : ℕ) (v : Value) → length es ≤ i → set_value_at es i v ≡ es
+set-past [] i v past = refl
+set-past (e ∷ es) zero v past = absurd (omega (arith, past))
+set-past (e ∷ es) (suc i) v past = ap (λ (later : NamedValues). e ∷ later) (set-past es i v (omega (arith, past)))
 
-  pub with_value-insert : (v : Value) (es : NamedValues) → IsDistinct same_name (keys_of es) → is_some (lookup (same_name n) es) ≡ true → with_value es n v ≡ insert_entry same_name es n v
-  with_value-insert v [] distinct there = absurd cc
-  with_value-insert v (e ∷ es) distinct there = by (same_name n e.0) refl (λ h. with_value-insert v es (IsDistinct-tail same_name e.0 (keys_of es) distinct) h)
-    where
-      by : (b : Bool) → same_name n e.0 ≡ b → (is_some (lookup (same_name n) es) ≡ true → with_value es n v ≡ insert_entry same_name es n v) → with_value (e ∷ es) n v ≡ insert_entry same_name (e ∷ es) n v
-      by true was next = rw was (ap (λ (rest : NamedValues). (e.0, v) ∷ rest) (with_value-absent v es (absent-behind n e es distinct was)))
-      by false was next = rw was (ap (λ (rest : NamedValues). e ∷ rest) (next (rw was at there)))
+set-twice : (es : NamedValues) (i : ℕ) (v w : Value) → set_value_at (set_value_at es i v) i w ≡ set_value_at es i w
+set-twice [] i v w = refl
+set-twice (e ∷ es) zero v w = refl
+set-twice (e ∷ es) (suc i) v w = ap (λ (later : NamedValues). e ∷ later) (set-twice es i v w)
 
-  with_value-twice : (v w : Value) (es : NamedValues) → with_value (with_value es n v) n w ≡ with_value es n w
-  with_value-twice v w [] = refl
-  with_value-twice v w (e ∷ es) = by (same_name n e.0) refl (with_value-twice v w es)
-    where
-      by : (b : Bool) → same_name n e.0 ≡ b → with_value (with_value es n v) n w ≡ with_value es n w → with_value (with_value (e ∷ es) n v) n w ≡ with_value (e ∷ es) n w
-      by true was rest = rw (was, was) (ap (λ (later : NamedValues). (e.0, w) ∷ later) rest)
-      by false was rest = rw (was, was) (ap (λ (later : NamedValues). e ∷ later) rest)
+set-back : (es : NamedValues) (i : ℕ) (d : Value) → set_value_at es i (get_or (values_of es) i d) ≡ es
+set-back [] i d = refl
+set-back (e ∷ es) zero d = refl
+set-back (e ∷ es) (suc i) d = ap (λ (later : NamedValues). e ∷ later) (set-back es i d)
 
-  with_value-back : (v : Value) (es : NamedValues) → IsDistinct same_name (keys_of es) → lookup (same_name n) es ≡ Some v → with_value es n v ≡ es
-  with_value-back v [] distinct there = refl
-  with_value-back v (e ∷ es) distinct there = by (same_name n e.0) refl (λ h. with_value-back v es (IsDistinct-tail same_name e.0 (keys_of es) distinct) h)
-    where
-      by : (b : Bool) → same_name n e.0 ≡ b → (lookup (same_name n) es ≡ Some v → with_value es n v ≡ es) → with_value (e ∷ es) n v ≡ e ∷ es
-      by true was next =
-          let here : Some e.1 ≡ Some v = rw was at there in
-          let value : e.1 ≡ v = cc in
-          rw (was, with_value-absent v es (absent-behind n e es distinct was)) (ap (λ (x : Value). (e.0, x) ∷ es) (sym value))
-      by false was next = rw was (ap (λ (rest : NamedValues). e ∷ rest) (next (rw was at there)))
-
-  with_value-apart : (k : Name) (v w : Value) → same_name k n ≡ false → (es : NamedValues) → with_value (with_value es n v) k w ≡ with_value (with_value es k w) n v
-  with_value-apart k v w other [] = refl
-  with_value-apart k v w other (e ∷ es) = by (same_name n e.0) (same_name k e.0) refl refl (with_value-apart k v w other es)
-    where
-      by : (b c : Bool) → same_name n e.0 ≡ b → same_name k e.0 ≡ c → with_value (with_value es n v) k w ≡ with_value (with_value es k w) n v
-          → with_value (with_value (e ∷ es) n v) k w ≡ with_value (with_value (e ∷ es) k w) n v
-      by true true was is rest = absurd (let one : k ≡ n = same_text k e.0 is ∙ sym (same_text n e.0 was) in let same : same_name k n ≡ true = ap (same_name k) (sym one) ∙ same_self k in cc)
-      by true false was is rest = rw (was, is, was) (ap (λ (later : NamedValues). (e.0, v) ∷ later) rest)
-      by false true was is rest = rw (was, is, was) (ap (λ (later : NamedValues). (e.0, w) ∷ later) rest)
-      by false false was is rest = rw (was, is, was) (ap (λ (later : NamedValues). e ∷ later) rest)
+set-apart : (es : NamedValues) (i j : ℕ) (v w : Value) → (i ≡ j → ⊥) → set_value_at (set_value_at es i v) j w ≡ set_value_at (set_value_at es j w) i v
+set-apart [] i j v w other = refl
+set-apart (e ∷ es) zero zero v w other = absurd (other refl)
+set-apart (e ∷ es) zero (suc j) v w other = refl
+set-apart (e ∷ es) (suc i) zero v w other = refl
+set-apart (e ∷ es) (suc i) (suc j) v w other = ap (λ (later : NamedValues). e ∷ later) (set-apart es i j v w (λ same. other (ap suc same)))
 
 -- a name that is found among those held, and not freed
 module _ (freed : List Name) (n : Name) (held late : NamedValues) where
@@ -236,10 +216,11 @@ module _ (freed : List Name) (n : Name) (held late : NamedValues) where
   is_live : is_freed freed n ≡ false → is_some (lookup (same_name n) held) ≡ true → is_some (lookup (same_name n) (live freed held)) ≡ true
   is_live kept there = ap is_some (lookup-live freed n held ∙ ap (λ b. cond b None (lookup (same_name n) held)) kept) ∙ there
 
-  pub put-held : (v : Value) → IsDistinct same_name (keys_of held) → is_freed freed n ≡ false → is_some (lookup (same_name n) held) ≡ true
-      → live freed (with_value held n v) ++ late ≡ insert_entry same_name (live freed held ++ late) n v
-  put-held v distinct kept there =
-      ap (λ (es : NamedValues). live freed es ++ late) (with_value-insert n v held distinct there)
+  pub put-held : (v : Value) (i : ℕ) → is_freed freed n ≡ false → position (same_name n) (keys_of held) ≡ Some i
+      → live freed (set_value_at held i v) ++ late ≡ insert_entry same_name (live freed held ++ late) n v
+  put-held v i kept at =
+      let there = is_there i at in
+      ap (λ (es : NamedValues). live freed es ++ late) (sym (insert_entry-first same_name n v held i (Found-position (same_name n) held i at).first))
       ∙ ap (λ (es : NamedValues). es ++ late) (insert-live freed n v held kept there)
       ∙ sym (insert-append-left n v (live freed held) late (is_live kept there))
 
@@ -271,57 +252,56 @@ grown-freed (f ∷ fs) n k = by (same_name k f) (grown-freed fs n k)
     by false e = e
 
 -- notes put back what was replaced
-pub restored-noted : (held rs : NamedValues) (r : Name × Value) → restored held (rs ++ r ∷ []) ≡ restored (with_value held r.0 r.1) rs
+pub restored-noted : (held : NamedValues) (rs : PlacedValues) (r : ℕ × Value) → restored held (rs ++ r ∷ []) ≡ restored (set_value_at held r.0 r.1) rs
 restored-noted held [] r = refl
-restored-noted held (q ∷ rs) r = ap (λ (es : NamedValues). with_value es q.0 q.1) (restored-noted held rs r)
+restored-noted held (q ∷ rs) r = ap (λ (es : NamedValues). set_value_at es q.0 q.1) (restored-noted held rs r)
 
-pub keys_of-restored : (held rs : NamedValues) → keys_of (restored held rs) ≡ keys_of held
+pub keys_of-restored : (held : NamedValues) (rs : PlacedValues) → keys_of (restored held rs) ≡ keys_of held
 keys_of-restored held [] = refl
-keys_of-restored held (r ∷ rs) = keys_of-with_value r.0 r.1 (restored held rs) ∙ keys_of-restored held rs
+keys_of-restored held (r ∷ rs) = keys_of-set_value_at (restored held rs) r.0 r.1 ∙ keys_of-restored held rs
 
 -- the first value that is put in place of another is noted
-pub restored-first : (held rs : NamedValues) (n : Name) (v before : Value) → IsDistinct same_name (keys_of held) → lookup (same_name n) held ≡ Some before
-    → restored (with_value held n v) (rs ++ (n, before) ∷ []) ≡ restored held rs
-restored-first held rs n v before distinct there =
-    restored-noted (with_value held n v) rs (n, before)
-    ∙ ap (λ (es : NamedValues). restored es rs) (with_value-twice n v before held ∙ with_value-back n before held distinct there)
+restored-first : (held : NamedValues) (rs : PlacedValues) (i : ℕ) (v before : Value) → slice_get (values_of held) i ≡ Some before
+    → restored (set_value_at held i v) (rs ++ (i, before) ∷ []) ≡ restored held rs
+restored-first held rs i v before at =
+    let same : set_value_at held i before ≡ held = ap (set_value_at held i) (sym (get_or_from_slice_get (values_of held) i before before at)) ∙ set-back held i before in
+    restored-noted (set_value_at held i v) rs (i, before) ∙ ap (λ (es : NamedValues). restored es rs) (set-twice held i v before ∙ same)
 
--- what is noted of a name hides what stands there now
-pub restored-known : (n : Name) (v : Value) (held rs : NamedValues) → is_some (lookup (same_name n) rs) ≡ true → restored (with_value held n v) rs ≡ restored held rs
-restored-known n v held [] there = absurd cc
-restored-known n v held (r ∷ rs) there = by (same_name n r.0) refl (λ h. restored-known n v held rs h)
+-- what is noted of an index hides what stands there now
+restored-known : (i : ℕ) (v : Value) (held : NamedValues) (rs : PlacedValues) → is_noted rs i ≡ true → restored (set_value_at held i v) rs ≡ restored held rs
+restored-known i v held [] there = absurd (let no : false ≡ true = there in cc)
+restored-known i v held (r ∷ rs) there = by (eqb r.0 i) refl (λ h. restored-known i v held rs h)
   where
-    covered : (w : Value) (qs : NamedValues) → with_value (restored (with_value held n v) qs) n w ≡ with_value (restored held qs) n w
-    covered w [] = with_value-twice n v w held
-    covered w (q ∷ qs) = one (same_name n q.0) refl (covered w qs)
+    covered : (w : Value) (qs : PlacedValues) → set_value_at (restored (set_value_at held i v) qs) i w ≡ set_value_at (restored held qs) i w
+    covered w [] = set-twice held i v w
+    covered w (q ∷ qs) = one (eqb q.0 i) refl (covered w qs)
       where
-        one : (b : Bool) → same_name n q.0 ≡ b → with_value (restored (with_value held n v) qs) n w ≡ with_value (restored held qs) n w
-            → with_value (with_value (restored (with_value held n v) qs) q.0 q.1) n w ≡ with_value (with_value (restored held qs) q.0 q.1) n w
+        one : (b : Bool) → eqb q.0 i ≡ b → set_value_at (restored (set_value_at held i v) qs) i w ≡ set_value_at (restored held qs) i w
+            → set_value_at (set_value_at (restored (set_value_at held i v) qs) q.0 q.1) i w ≡ set_value_at (set_value_at (restored held qs) q.0 q.1) i w
         one true was rest =
-            let same : n ≡ q.0 = same_text n q.0 was in
-            rw (← same) (with_value-twice n q.1 w (restored (with_value held n v) qs) ∙ rest ∙ sym (with_value-twice n q.1 w (restored held qs)))
+            let same : q.0 ≡ i = eqb-true q.0 i was in
+            ap (λ (k : ℕ). set_value_at (set_value_at (restored (set_value_at held i v) qs) k q.1) i w) same
+            ∙ set-twice (restored (set_value_at held i v) qs) i q.1 w ∙ rest ∙ sym (set-twice (restored held qs) i q.1 w)
+            ∙ sym (ap (λ (k : ℕ). set_value_at (set_value_at (restored held qs) k q.1) i w) same)
         one false was rest =
-            with_value-apart q.0 n q.1 w was (restored (with_value held n v) qs)
-            ∙ ap (λ (es : NamedValues). with_value es q.0 q.1) rest
-            ∙ sym (with_value-apart q.0 n q.1 w was (restored held qs))
+            set-apart (restored (set_value_at held i v) qs) q.0 i q.1 w (eqb-false q.0 i was)
+            ∙ ap (λ (es : NamedValues). set_value_at es q.0 q.1) rest
+            ∙ sym (set-apart (restored held qs) q.0 i q.1 w (eqb-false q.0 i was))
 
-    by : (b : Bool) → same_name n r.0 ≡ b → (is_some (lookup (same_name n) rs) ≡ true → restored (with_value held n v) rs ≡ restored held rs) → restored (with_value held n v) (r ∷ rs) ≡ restored held (r ∷ rs)
+    by : (b : Bool) → eqb r.0 i ≡ b → (is_noted rs i ≡ true → restored (set_value_at held i v) rs ≡ restored held rs) → restored (set_value_at held i v) (r ∷ rs) ≡ restored held (r ∷ rs)
     by true was next =
-        let same : n ≡ r.0 = same_text n r.0 was in
-        ap (λ (k : Name). with_value (restored (with_value held n v) rs) k r.1) (sym same) ∙ covered r.1 rs ∙ ap (λ (k : Name). with_value (restored held rs) k r.1) same
-    by false was next = ap (λ (es : NamedValues). with_value es r.0 r.1) (next (rw was at there))
+        let same : r.0 ≡ i = eqb-true r.0 i was in
+        ap (λ (k : ℕ). set_value_at (restored (set_value_at held i v) rs) k r.1) same ∙ covered r.1 rs ∙ sym (ap (λ (k : ℕ). set_value_at (restored held rs) k r.1) same)
+    by false was next = ap (λ (es : NamedValues). set_value_at es r.0 r.1) (next (rw was at there))
 
-pub insert-missing : (es : NamedValues) (n : Name) (v : Value) → lookup (same_name n) es ≡ None → insert_entry same_name es n v ≡ es ++ (n, v) ∷ []
+-- what is noted of an index when a value is put in place of another, of which one may be noted already
+pub restored-put : (held : NamedValues) (rs : PlacedValues) (i : ℕ) (v before : Value) (back : Option Value) → slice_get (values_of held) i ≡ Some before
+    → IfSome back (λ w. (w ≡ before) × (is_noted rs i ≡ true)) → restored (set_value_at held i v) (cond (is_some back) rs (rs ++ (i, before) ∷ [])) ≡ restored held rs
+restored-put held rs i v before None at known = restored-first held rs i v before at
+restored-put held rs i v before (Some w) at known = restored-known i v held rs known.1
+
+insert-missing : (es : NamedValues) (n : Name) (v : Value) → lookup (same_name n) es ≡ None → insert_entry same_name es n v ≡ es ++ (n, v) ∷ []
 insert-missing es n v none = ap (λ (xs : NamedValues). insert_entry same_name xs n v) (sym (append-nil es)) ∙ insert-append-right n v es [] none
-
--- what is noted of a name when a value is put in place of another
-pub restored-put : (held rs : NamedValues) (n : Name) (v before : Value) → IsDistinct same_name (keys_of held) → lookup (same_name n) held ≡ Some before
-    → restored (with_value held n v) (cond (is_some (lookup (same_name n) rs)) rs (insert_entry same_name rs n before)) ≡ restored held rs
-restored-put held rs n v before distinct there = by (is_some (lookup (same_name n) rs)) refl
-  where
-    by : (b : Bool) → is_some (lookup (same_name n) rs) ≡ b → restored (with_value held n v) (cond b rs (insert_entry same_name rs n before)) ≡ restored held rs
-    by true known = restored-known n v held rs known
-    by false new = ap (restored (with_value held n v)) (insert-missing rs n before (none_there (lookup (same_name n) rs) new)) ∙ restored-first held rs n v before distinct there
 
 pub on_ok : {A E : Type 0} {P : Type 0} (r : Result A E) → OnOk r P → IsOk r → P
 on_ok (Ok x) holds ok = holds

@@ -1,12 +1,12 @@
 -- A block under way: what it changed, beside the values that were held when it began.
-use Rattle.std.specs.Prelude.{◌≡◌, ℕ, ◌+◌, ◌≤◌, Bool, true, false, not, List, [], ◌∷◌, ◌++◌, map, filter, length, Option, Some, None, if◌then◌else◌}
+use Rattle.std.specs.Prelude.{◌≡◌, ℕ, ◌+◌, ◌≤◌, Bool, true, false, not, List, [], ◌∷◌, ◌++◌, filter, length, Option, Some, None}
 use Rattle.std.specs.List.{list_any}
 use Rattle.indexmap.specs.IndexMap as maps
 use Rattle.indexmap.specs.IndexSet as sets
 use Rattle.vector_memory.specs.declared.name.Name.{Name}
-use Rattle.vector_memory.specs.declared.value.Value.{Value}
 use Rattle.vector_memory.specs.declared.block.Block.{Block}
 use Rattle.vector_memory.specs.Names.{same_name}
+use Rattle.vector_memory.specs.Notes.{PlacedValues}
 use Rattle.vector_memory.specs.States.{Began, NamedValues, contents}
 
 -- whether a name was freed
@@ -21,14 +21,10 @@ live freed held = filter (λ e. not (is_freed freed e.0)) held
 abbrev pub shown : NamedValues → Block → NamedValues
 shown held b = live b.freed.keys held ++ b.late.entries
 
--- the entries with another value at a name that is there
-abbrev pub with_value : NamedValues → Name → Value → NamedValues
-with_value held n v = map (λ e. if same_name n e.0 then (e.0, v) else e) held
-
 -- the entries with the values put back that were replaced
-abbrev pub restored : NamedValues → NamedValues → NamedValues
+abbrev pub restored : NamedValues → PlacedValues → NamedValues
 restored held [] = held
-restored held (r ∷ rs) = with_value (restored held rs) r.0 r.1
+restored held (r ∷ rs) = maps.set_value_at (restored held rs) r.0 r.1
 
 -- what contracts see of a block
 abbrev pub began_of : Bool → NamedValues → Block → Option Began
@@ -37,7 +33,7 @@ began_of false held b = None
 
 -- there is room for so many changes, and for the names that came in what the memory holds
 pub record HasRoom (spaces : ℕ) (b : Block) : Type 0 where
-  pub replaced : b.left ≤ maps.spare b.replaced
+  pub replaced : b.left ≤ b.replaced.spaces
   pub freed : b.left ≤ sets.spare b.freed
   pub late : b.left ≤ maps.spare b.late
   pub held : length b.late.entries + b.left ≤ spaces

@@ -1,14 +1,16 @@
 //! A block under way, beside the values that a memory holds: what it replaced, which names it freed, and which came. A freed
 //! name stays among the values held until the block ends, so that an undo puts values back and inserts no name.
 
-ghost use Rattle.std.specs.Prelude.{◌≡◌, ℕ, if◌then◌else◌, ◌+◌, ◌≤◌, ◌<◌, [], Some, None, is_some, length, IfOk, OnOk, OnErr, IsOk, IsTrue, true, false, not};
+ghost use Rattle.std.specs.Prelude.{◌≡◌, ℕ, if◌then◌else◌, ◌+◌, ◌≤◌, ◌<◌, [], ◌++◌, Some, None, length, slice_get, OnOk, OnErr, true, false};
 ghost use Rattle.std.specs.List.{IsDistinct};
 ghost use Rattle.std.specs.Map.{lookup, keys_of, remove_entry};
-ghost use Rattle.std.specs.Option.{option_copied};
-ghost use Rattle.indexmap.specs.IndexMap.{IsUnique, get, index_of, insert_entry, spare};
-ghost use Rattle.vector_memory.specs.Blocks.{HasRoom, IsBlank, is_freed, live, restored, shown, with_value};
+ghost use Rattle.std.specs.Option.{option_copied, option_map};
+ghost use Rattle.indexmap.specs.IndexMap.{IsUnique, get, index_map_len, index_of, insert_entry, set_value_at, spare, values};
+ghost use Rattle.vector_memory.specs.Blocks.{HasRoom, IsBlank, is_freed, live, restored, shown};
+ghost use Rattle.vector_memory.specs.Contents.{content_of, size_of};
 ghost use Rattle.vector_memory.specs.Names.{same_name};
 
+use crate::notes::Notes;
 use crate::{Name, Value};
 use indexmap::{IndexMap, IndexSet};
 use std::alloc::{AllocError, Global};
@@ -26,11 +28,20 @@ pub(crate) struct Block {
     /// The number of items of all values when it began.
     pub(crate) cells: usize,
     /// The values that were held when it began, of names that have another one.
-    pub(crate) replaced: IndexMap<Name, Value>,
+    pub(crate) replaced: Notes,
     /// The names held that were freed.
     pub(crate) freed: IndexSet<Name>,
     /// The names that came, or came back, with their values, in order.
     pub(crate) late: IndexMap<Name, Value>,
+}
+
+/// What a block finds of a name.
+#[derive(Clone, Copy)]
+pub(crate) struct Spot {
+    /// The index of the name among the values held, if it is there and was not freed.
+    pub(crate) index: Option<usize>,
+    /// The size of its value, if it has one.
+    pub(crate) size: Option<usize>,
 }
 
 impl Block {
@@ -44,7 +55,7 @@ impl Block {
             left: 0,
             names: 0,
             cells: 0,
-            replaced: IndexMap::new(alloc),
+            replaced: Notes::new(alloc),
             freed: IndexSet::new(alloc),
             late: IndexMap::new(alloc),
         }
@@ -66,7 +77,7 @@ impl Block {
         ensures room { (spaces : ℕ) → changes ≤ spaces → OnOk result (HasRoom spaces self.new) }
         ensures err { OnErr result (self.new.begun ≡ self.old.begun) }
     {
-        self.replaced.reserve(changes)?;
+        self.replaced.reserve(changes, names)?;
         self.freed.reserve(changes)?;
         self.late.reserve(changes)?;
         self.begun = true;
@@ -83,14 +94,45 @@ impl Block {
         !self.freed.is_empty() && self.freed.contains(name)
     }
 
-    /// The index of a name among the values held, if it is there and was not freed.
-    fn find(&self, held: &IndexMap<Name, Value>, name: &Name) -> Option<usize>
-        ensures { result ≡ (if is_freed self.now.freed.keys name.now then None else index_of same_name held.now name.now) }
+    /// The index of a name among the values held, and the size of its value, if it is there and was not freed.
+    fn find(&self, held: &IndexMap<Name, Value>, name: &Name) -> Option<(usize, usize)>
+        ensures index { option_map (λ found. found.0) result
+            ≡ (if is_freed self.now.freed.keys name.now then None else index_of same_name held.now name.now) }
+        ensures size { option_map (λ found. found.1) result
+            ≡ option_map size_of (option_map content_of (if is_freed self.now.freed.keys name.now then None else get same_name held.now name.now)) }
     {
         if self.is_freed(name) {
             return None;
         }
-        held.get_index_of(name)
+        let (index, _, value) = held.get_full(name)?;
+        Some((index, value.size()))
+    }
+
+    /// The size of the value of a name that came in the block, if it did.
+    fn late_size(&self, name: &Name) -> Option<usize>
+        ensures { result ≡ option_map size_of (option_map content_of (lookup (same_name name.now) self.now.late.entries)) }
+    {
+        match self.late.get(name) {
+            Some(value) => Some(value.size()),
+            None => None,
+        }
+    }
+
+    /// Where a name stands, and how large its value is.
+    pub(crate) fn seek(&self, held: &IndexMap<Name, Value>, name: &Name) -> Spot
+        ensures index { result.index ≡ (if is_freed self.now.freed.keys name.now then None else index_of same_name held.now name.now) }
+        ensures size { result.size ≡ option_map size_of (option_map content_of (lookup (same_name name.now) (shown held.now.entries self.now))) }
+    {
+        match self.find(held, name) {
+            Some((index, size)) => Spot {
+                index: Some(index),
+                size: Some(size),
+            },
+            None => Spot {
+                index: None,
+                size: self.late_size(name),
+            },
+        }
     }
 
     /// The value of a name, if it has one.
@@ -110,38 +152,16 @@ impl Block {
         }
     }
 
-    /// Notes the value that a name had when the block began. A value that came in the block comes back.
-    fn note(&mut self, name: Name, before: Value) -> Option<Value>
-        requires { 0 < spare self.old.replaced }
-        ensures noted { self.new.replaced.entries ≡ (if is_some (get same_name self.old.replaced name) then self.old.replaced.entries
-            else insert_entry same_name self.old.replaced.entries name before) }
-        ensures spare { spare self.old.replaced ≤ spare self.new.replaced + 1 }
-        ensures others { self.new ≡ record {
-          begun = self.old.begun;
-          left = self.old.left;
-          names = self.old.names;
-          cells = self.old.cells;
-          replaced = self.new.replaced;
-          freed = self.old.freed;
-          late = self.old.late;
-        } }
-    {
-        if self.replaced.contains_key(&name) {
-            return Some(before);
-        }
-        let _noted = self.replaced.insert(name, before);
-        None
-    }
-
-    /// Sets the value of a name. A name that is there keeps its place, and a new one, or one that was freed, goes last.
-    /// A value that the block itself had stored comes back.
+    /// Sets the value of a name, from what `seek` found of it. A name that is there keeps its place, and a new one, or one that was
+    /// freed, goes last. A value that the block itself had stored comes back.
     pub(crate) fn put(
         &mut self,
         held: &mut IndexMap<Name, Value>,
+        index: Option<usize>,
         name: Name,
         value: Value,
     ) -> Option<Value>
-        requires unique { IsUnique same_name held.old }
+        requires index { index ≡ (if is_freed self.old.freed.keys name then None else index_of same_name held.old name) }
         requires left { 0 < self.old.left }
         requires room { HasRoom (spare held.old) self.old }
         ensures shown { shown held.new.entries self.new ≡ insert_entry same_name (shown held.old.entries self.old) name value }
@@ -153,10 +173,10 @@ impl Block {
         ensures cells { self.new.cells ≡ self.old.cells }
     {
         self.left -= 1;
-        match self.find(held, &name) {
+        match index {
             Some(index) => {
-                let before = swap_at(held, index, &name, value);
-                self.note(name, before)
+                let before = swap_at(held, index, value);
+                self.replaced.note(index, before)
             }
             None => match self.late.insert(name, value) {
                 Ok(before) => before,
@@ -165,8 +185,9 @@ impl Block {
         }
     }
 
-    /// Takes a name that is there away. One that was held stays where it is, and counts as freed.
-    pub(crate) fn take(&mut self, held: &IndexMap<Name, Value>, name: &Name)
+    /// Takes a name that is there away, from what `seek` found of it. One that was held stays where it is, and counts as freed.
+    pub(crate) fn take(&mut self, held: &IndexMap<Name, Value>, index: Option<usize>, name: &Name)
+        requires index { index ≡ (if is_freed self.old.freed.keys name.now then None else index_of same_name held.now name.now) }
         requires unique { IsUnique same_name held.now }
         requires left { 0 < self.old.left }
         requires room { HasRoom (spare held.now) self.old }
@@ -179,7 +200,7 @@ impl Block {
         ensures cells { self.new.cells ≡ self.old.cells }
     {
         self.left -= 1;
-        match self.find(held, name) {
+        match index {
             Some(_) => {
                 let _freed = self.freed.insert(*name);
             }
@@ -195,8 +216,8 @@ impl Block {
         ensures begun { self.new.begun ≡ false }
         ensures blank { IsBlank self.new }
     {
-        while let Some(note) = self.replaced.pop() {
-            put_back(held, note);
+        while let Some((index, value)) = self.replaced.pop() {
+            put_back(held, index, value);
         }
         self.freed.clear();
         self.late.clear();
@@ -211,42 +232,62 @@ impl Block {
         ensures begun { self.new.begun ≡ false }
         ensures blank { IsBlank self.new }
     {
-        drop_freed(held, &self.freed);
-        let _appended = held.append(&mut self.late);
+        drop_freed(held, &mut self.freed);
+        add_late(held, &mut self.late);
         self.replaced.clear();
-        self.freed.clear();
         self.begun = false;
     }
 }
 
-/// Puts a value in place of the one at the index of its name, which comes back.
-fn swap_at(held: &mut IndexMap<Name, Value>, index: usize, name: &Name, value: Value) -> Value
-    requires index { Some index ≡ index_of same_name held.old name.now }
-    requires unique { IsUnique same_name held.old }
-    ensures held { held.new.entries ≡ with_value held.old.entries name.now value }
-    ensures before { Some result ≡ get same_name held.old name.now }
+/// Puts a value in place of the one at an index, which comes back.
+fn swap_at(held: &mut IndexMap<Name, Value>, index: usize, value: Value) -> Value
+    requires { index < index_map_len held.old }
+    ensures held { held.new.entries ≡ set_value_at held.old.entries index value }
+    ensures before { slice_get (values held.old) index ≡ Some result }
     ensures spare { spare held.new ≡ spare held.old }
 {
     mem::replace(&mut held[index], value)
 }
 
-/// Puts a value back at its name.
-fn put_back(held: &mut IndexMap<Name, Value>, note: (Name, Value))
-    ensures { held.new.entries ≡ with_value held.old.entries note.0 note.1 }
+/// Puts a value back at its index.
+fn put_back(held: &mut IndexMap<Name, Value>, index: usize, value: Value)
+    ensures { held.new.entries ≡ set_value_at held.old.entries index value }
 {
-    let (name, value) = note;
-    if let Some(index) = held.get_index_of(&name) {
-        swap_at(held, index, &name, value);
+    if index < held.len() {
+        swap_at(held, index, value);
     }
 }
 
-/// Takes the names away that were freed, all in one pass.
-fn drop_freed(held: &mut IndexMap<Name, Value>, freed: &IndexSet<Name>)
-    ensures held { held.new.entries ≡ live freed.now.keys held.old.entries }
+/// Takes the names away that were freed, all in one pass, and forgets that they were.
+fn drop_freed(held: &mut IndexMap<Name, Value>, freed: &mut IndexSet<Name>)
+    ensures held { held.new.entries ≡ live freed.old.keys held.old.entries }
     ensures spare { spare held.old ≤ spare held.new }
+    ensures freed { freed.new.keys ≡ [] }
 {
     if freed.is_empty() {
         return;
     }
-    held.retain(|name, _| !freed.contains(name));
+    retain_others(held, freed);
+    freed.clear();
+}
+
+/// Takes the names of a set away.
+fn retain_others(held: &mut IndexMap<Name, Value>, names: &IndexSet<Name>)
+    ensures held { held.new.entries ≡ live names.now.keys held.old.entries }
+    ensures spare { spare held.old ≤ spare held.new }
+{
+    held.retain(|name, _| !names.contains(name));
+}
+
+/// Puts the names that came behind the others.
+fn add_late(held: &mut IndexMap<Name, Value>, late: &mut IndexMap<Name, Value>)
+    requires distinct { IsDistinct same_name (keys_of (held.old.entries ++ late.old.entries)) }
+    requires room { length late.old.entries ≤ spare held.old }
+    ensures held { held.new.entries ≡ held.old.entries ++ late.old.entries }
+    ensures late { late.new.entries ≡ [] }
+{
+    if late.is_empty() {
+        return;
+    }
+    let _appended = held.append(late);
 }

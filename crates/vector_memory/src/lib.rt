@@ -10,6 +10,7 @@ pub mod laws;
 mod memory;
 mod name;
 mod name_text;
+mod notes;
 mod value;
 
 pub use bounds::Bounds;

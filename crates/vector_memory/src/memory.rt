@@ -124,16 +124,6 @@ impl Memory {
         self.values.get(name)
     }
 
-    /// The size of the value of a name, if it has one.
-    fn size_at(&self, name: &Name) -> Option<usize>
-        ensures { result ≡ option_map size_of (value_at self.now name.now) }
-    {
-        match self.get(name) {
-            Some(value) => Some(value.size()),
-            None => None,
-        }
-    }
-
     /// The number of items of all values.
     pub fn cells(&self) -> usize
         ensures { result ≡ cells_of self.now.entries }
@@ -357,13 +347,13 @@ impl Memory {
         ensures err { OnErr result (self.new ≡ self.old) }
         ensures no_want { result ≡ Err StoreFault.OutOfMemory → ⊥ }
     {
-        let old = self.size_at(&name);
-        let cells = match self.count(old, value.size()) {
+        let spot = self.block.seek(&self.values, &name);
+        let cells = match self.count(spot.size, value.size()) {
             Ok(cells) => cells,
             Err(refusal) => return Err(refusal),
         };
-        let before = self.block.put(&mut self.values, name, value);
-        self.block.names += one_if(old.is_none());
+        let before = self.block.put(&mut self.values, spot.index, name, value);
+        self.block.names += one_if(spot.size.is_none());
         self.cells = cells;
         Ok(before)
     }
@@ -393,10 +383,11 @@ impl Memory {
         ensures was { result ≡ is_some (value_at self.old name.now) }
         ensures taken { self.new ≡ without self.old name.now }
     {
-        let Some(size) = self.size_at(name) else {
+        let spot = self.block.seek(&self.values, name);
+        let Some(size) = spot.size else {
             return false;
         };
-        self.block.take(&self.values, name);
+        self.block.take(&self.values, spot.index, name);
         self.block.names -= 1;
         self.cells -= size;
         true

@@ -15,7 +15,7 @@ returns-in-Some-clause-shown c =
     let late = c.args.self.now.late.entries in
     let name = c.args.name.now in
     let index = position (same_name name) (keys_of held) in
-    let search = sym c.find.ensures ∙ c.in-Some.is in
+    let search = sym c.requires.index ∙ c.in-Some.is in
     let kept = found-kept (is_freed freed name) index c.in-Some.field-0 search in
     let there = is_there freed name held late c.in-Some.field-0 (found-index (is_freed freed name) index c.in-Some.field-0 search) in
     let more : c.insert-freed.new.self.keys ≡ freed ++ name ∷ [] =
@@ -30,6 +30,6 @@ returns-in-None-clause-shown c =
     let freed = c.args.self.now.freed.keys in
     let late = c.args.self.now.late.entries in
     let name = c.args.name.now in
-    let none = not_live freed name held late (sym c.find.ensures ∙ c.in-None.is) in
+    let none = not_live freed name held late (sym c.requires.index ∙ c.in-None.is) in
     ap (λ (es : NamedValues). live freed held ++ es) c.shift_remove.ensures.entries
     ∙ sym (remove-append-right name (live freed held) late none)
