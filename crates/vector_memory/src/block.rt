@@ -87,11 +87,19 @@ impl Block {
         Ok(())
     }
 
-    /// Whether a name was freed.
+    /// Whether a name was freed, in which a block that frees nothing searches nothing.
     fn is_freed(&self, name: &Name) -> bool
         ensures { result ≡ is_freed self.now.freed.keys name.now }
     {
-        !self.freed.is_empty() && self.freed.contains(name)
+        !self.freed.is_empty() && self.has_freed(name)
+    }
+
+    // What few blocks need is not inlined, so that a look-up of a name that is held stays as short as it is outside a block.
+    #[inline(never)]
+    fn has_freed(&self, name: &Name) -> bool
+        ensures { result ≡ is_freed self.now.freed.keys name.now }
+    {
+        self.freed.contains(name)
     }
 
     /// The index of a name among the values held, and the size of its value, if it is there and was not freed.
@@ -108,11 +116,19 @@ impl Block {
         Some((index, value.size()))
     }
 
-    /// The size of the value of a name that came in the block, if it did.
+    /// The value of a name that came in the block, if it did.
+    #[inline(never)]
+    fn late_value(&self, name: &Name) -> Option<&Value>
+        ensures { option_copied result ≡ lookup (same_name name.now) self.now.late.entries }
+    {
+        self.late.get(name)
+    }
+
+    /// The size of that value.
     fn late_size(&self, name: &Name) -> Option<usize>
         ensures { result ≡ option_map size_of (option_map content_of (lookup (same_name name.now) self.now.late.entries)) }
     {
-        match self.late.get(name) {
+        match self.late_value(name) {
             Some(value) => Some(value.size()),
             None => None,
         }
@@ -135,7 +151,8 @@ impl Block {
         }
     }
 
-    /// The value of a name, if it has one.
+    /// The value of a name, if it has one, in a block and outside.
+    #[inline(always)]
     pub(crate) fn get<'a>(
         &'a self,
         held: &'a IndexMap<Name, Value>,
@@ -144,11 +161,11 @@ impl Block {
         ensures { option_copied result ≡ lookup (same_name name.now) (shown held.now.entries self.now) }
     {
         if self.is_freed(name) {
-            return self.late.get(name);
+            return self.late_value(name);
         }
         match held.get(name) {
             Some(value) => Some(value),
-            None => self.late.get(name),
+            None => self.late_value(name),
         }
     }
 
@@ -178,10 +195,7 @@ impl Block {
                 let before = swap_at(held, index, value);
                 self.replaced.note(index, before)
             }
-            None => match self.late.insert(name, value) {
-                Ok(before) => before,
-                Err(_) => unreachable!(),
-            },
+            None => put_late(&mut self.late, name, value),
         }
     }
 
@@ -236,6 +250,21 @@ impl Block {
         add_late(held, &mut self.late);
         self.replaced.clear();
         self.begun = false;
+    }
+}
+
+/// Sets the value of a name that came, or comes, in the block. One that it had comes back.
+#[inline(never)]
+fn put_late(late: &mut IndexMap<Name, Value>, name: Name, value: Value) -> Option<Value>
+    requires { 0 < spare late.old }
+    ensures late { late.new.entries ≡ insert_entry same_name late.old.entries name value }
+    ensures before { result ≡ get same_name late.old name }
+    ensures spare { spare late.old ≤ spare late.new + 1 }
+    ensures few { length late.new.entries ≤ length late.old.entries + 1 }
+{
+    match late.insert(name, value) {
+        Ok(before) => before,
+        Err(_) => unreachable!(),
     }
 }
 

@@ -118,10 +118,7 @@ impl Memory {
         ensures value { option_map content_of (option_copied result) ≡ value_at self.now name.now }
         ensures fits { IfSome result (λ value. FitsLimits self.now.limit (content_of value.now)) }
     {
-        if self.block.begun {
-            return self.block.get(&self.values, name);
-        }
-        self.values.get(name)
+        self.block.get(&self.values, name)
     }
 
     /// The number of items of all values.

@@ -37,12 +37,12 @@ returns-in-Some-clause-before c =
     ∙ ap (restored (set_value_at held index c.args.value)) c.note.ensures.entries
     ∙ restored-put held notes index c.args.value c.swap_at-before.result c.note.result c.swap_at-before.ensures.before c.note.ensures.back
 
-pub returns-in-Ok-clause-shown : goal.returns-in-Ok-clause-shown
-returns-in-Ok-clause-shown c =
+pub returns-in-None-clause-shown : goal.returns-in-None-clause-shown
+returns-in-None-clause-shown c =
     let held = c.args.held.now.entries in
     let freed = c.args.self.now.freed.keys in
     let late = c.args.self.now.late.entries in
     let name = c.args.name in
     let none = not_live freed name held late (sym c.requires.index ∙ c.in-None.is) in
-    ap (λ (es : NamedValues). live freed held ++ es) c.in-Ok.ensures.entries
+    ap (λ (es : NamedValues). live freed held ++ es) c.put_late.ensures.late
     ∙ sym (insert-append-right name c.args.value (live freed held) late none)
