@@ -87,14 +87,14 @@ impl Block {
         Ok(())
     }
 
-    /// Whether a name was freed, in which a block that frees nothing searches nothing.
+    /// Whether a name was freed. Where none was, nothing is searched.
     fn is_freed(&self, name: &Name) -> bool
         ensures { result ≡ is_freed self.now.freed.keys name.now }
     {
         !self.freed.is_empty() && self.has_freed(name)
     }
 
-    // What few blocks need is not inlined, so that a look-up of a name that is held stays as short as it is outside a block.
+    // What few blocks need is not inlined, so that a look-up of a name that is held has one search in its code.
     #[inline(never)]
     fn has_freed(&self, name: &Name) -> bool
         ensures { result ≡ is_freed self.now.freed.keys name.now }
