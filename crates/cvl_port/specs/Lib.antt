@@ -1,0 +1,5 @@
+pub mod Replies
+pub mod Ports
+pub mod Lines
+pub mod Posts
+pub mod Closings
