@@ -1,0 +1,3 @@
+pub mod Boxes
+mod FillLemmas
+mod OpenLemmas

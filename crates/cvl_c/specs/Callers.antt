@@ -1,0 +1,30 @@
+-- What the calls of a caller of C do: nothing where it is shut, and else what the call of its port does.
+use Rattle.std.specs.Global.{Box}
+use Rattle.std.specs.Prelude.{◌≡◌, Option, Some, None, List, map}
+use Rattle.cvl_port.specs.declared.port.Port.{Port}
+use Rattle.cvl_c.specs.declared.caller.Caller.{Caller}
+
+-- the port of a caller, if it is open
+abbrev pub port_in : Caller → Option Port
+port_in c = c.handle.port
+
+abbrev pub IsShut : Caller → Type 0
+IsShut c = port_in c ≡ None
+
+-- A shut caller stays shut, and the answer says that it is. An open one stays open, and this was done to its port.
+abbrev pub CallsPort : {A : Type 0} → A → A → Option Port → Option Port → (Port → Port → Type 0) → Type 0
+CallsPort answer shut None after Does = (answer ≡ shut) × (after ≡ None)
+CallsPort answer shut (Some p) None Does = ⊥
+CallsPort answer shut (Some p) (Some q) Does = Does p q
+
+-- where it is shut, and where it is open
+abbrev pub AsksPort : Option Port → Type 0 → (Port → Type 0) → Type 0
+AsksPort None Shut Says = Shut
+AsksPort (Some p) Shut Says = Says p
+
+-- these callers are open, with these ports in order
+abbrev pub AreOpen : List Caller → List Port → Type 0
+AreOpen callers ports = map port_in callers ≡ map Some ports
+
+abbrev pub port_boxed : Box Port → Port
+port_boxed b = b.value

@@ -1,0 +1,9 @@
+pub mod Answers
+pub mod Callers
+pub mod Closing
+pub mod Handles
+pub mod Opening
+pub mod Preparing
+pub mod Reading
+pub mod Serving
+pub mod Statuses

@@ -1,0 +1,187 @@
+//! Readers of the last replies. They change nothing.
+
+ghost use Rattle.std.specs.Prelude.{◌≡◌, length, slice_get, Ok, Err, IfSome};
+ghost use Rattle.std.specs.Option.{option_copied};
+ghost use Rattle.cvl_port.specs.Replies.{replies_of};
+ghost use Rattle.cvl_c.specs.Answers.{Shows, shown, bools_of, ints_of, lengths_of, text_of, written_over};
+ghost use Rattle.cvl_c.specs.Callers.{AsksPort, port_in};
+ghost use Rattle.cvl_c.specs.Reading.{HasReply, ReadsItems, ReadsText};
+
+use crate::answer::{Answer, shown};
+use crate::caller::Caller;
+use crate::statuses::{NO_MEMORY, NO_REPLY, OK, SHUT};
+use core::mem::replace_with;
+use cvl_text::Reply;
+use std::alloc::Global;
+use vector_memory::Value;
+
+/// As many items as both have. How many there are in all.
+fn copy<T: Copy>(from: &[T], to: &mut [T]) -> u64
+    ensures all { result ≡ length from.now }
+    ensures written { to.new ≡ written_over from.now to.old }
+{
+    let count = from.len().min(to.len());
+    to[..count].copy_from_slice(&from[..count]);
+    from.len() as u64
+}
+
+fn show(caller: Caller, number: u64) -> (Caller, Result<Option<Answer>, ()>)
+    ensures same { port_in result.0 ≡ port_in caller }
+    ensures shows { AsksPort (port_in caller) (result.1 ≡ Err tt) (λ p. result.1 ≡ Ok (shown p.place p.last number)) }
+{
+    let port = match caller.into_port() {
+        Ok(port) => port,
+        Err(caller) => return (caller, Err(())),
+    };
+    let answer = shown(&port, number as usize);
+    (Caller::of(port), Ok(answer))
+}
+
+/// The reply of a number, of the last ones.
+#[unsafe(no_mangle)]
+pub extern "C" fn cvl_reply(caller: &mut Caller, number: u64, answer: &mut Answer) -> i32
+    ensures same { port_in caller.new ≡ port_in caller.old }
+    ensures shows { AsksPort (port_in caller.old) (result ≡ SHUT) (λ p.
+        HasReply result p.last number × Shows p.place p.last number answer.old answer.new) }
+{
+    match replace_with(caller, number, show) {
+        Ok(Some(found)) => {
+            *answer = found;
+            OK
+        }
+        Ok(None) => NO_REPLY,
+        Err(()) => SHUT,
+    }
+}
+
+fn ints_of(reply: Option<&Reply>) -> &[i64]
+    ensures { result.now ≡ ints_of (option_copied reply.entry) }
+{
+    match reply {
+        Some(Reply::Vector(Value::Ints(items))) => items.as_slice(),
+        _ => &[],
+    }
+}
+
+/// The integers of a reply, as many as fit. How many it has in all.
+#[unsafe(no_mangle)]
+pub extern "C" fn cvl_ints(alloc: Global, caller: &mut Caller, number: u64, out: &mut [i64]) -> u64
+    ensures same { port_in caller.new ≡ port_in caller.old }
+    ensures reads { ReadsItems ints_of (port_in caller.old) number result out.old out.new }
+{
+    let port = match caller.take(alloc).into_port() {
+        Ok(port) => port,
+        Err(shut) => {
+            caller.give(shut);
+            return 0;
+        }
+    };
+    let count = copy(ints_of(port.last.reply(number as usize)), out);
+    caller.give(Caller::of(port));
+    count
+}
+
+fn bools_of(reply: Option<&Reply>) -> &[bool]
+    ensures { result.now ≡ bools_of (option_copied reply.entry) }
+{
+    match reply {
+        Some(Reply::Vector(Value::Bools(items))) => items.as_slice(),
+        _ => &[],
+    }
+}
+
+/// The truth values of a reply, as many as fit. How many it has in all.
+#[unsafe(no_mangle)]
+pub extern "C" fn cvl_bools(
+    alloc: Global,
+    caller: &mut Caller,
+    number: u64,
+    out: &mut [bool],
+) -> u64
+    ensures same { port_in caller.new ≡ port_in caller.old }
+    ensures reads { ReadsItems bools_of (port_in caller.old) number result out.old out.new }
+{
+    let port = match caller.take(alloc).into_port() {
+        Ok(port) => port,
+        Err(shut) => {
+            caller.give(shut);
+            return 0;
+        }
+    };
+    let count = copy(bools_of(port.last.reply(number as usize)), out);
+    caller.give(Caller::of(port));
+    count
+}
+
+fn lengths_of(reply: Option<&Reply>) -> &[usize]
+    ensures { result.now ≡ lengths_of (option_copied reply.entry) }
+{
+    match reply {
+        Some(Reply::Vector(Value::Segs(segments))) => segments.lengths(),
+        _ => &[],
+    }
+}
+
+/// The lengths of the segments of a reply, as many as fit. How many it has in all.
+#[unsafe(no_mangle)]
+pub extern "C" fn cvl_lengths(
+    alloc: Global,
+    caller: &mut Caller,
+    number: u64,
+    out: &mut [usize],
+) -> u64
+    ensures same { port_in caller.new ≡ port_in caller.old }
+    ensures reads { ReadsItems lengths_of (port_in caller.old) number result out.old out.new }
+{
+    let port = match caller.take(alloc).into_port() {
+        Ok(port) => port,
+        Err(shut) => {
+            caller.give(shut);
+            return 0;
+        }
+    };
+    let count = copy(lengths_of(port.last.reply(number as usize)), out);
+    caller.give(Caller::of(port));
+    count
+}
+
+/// The text of a reply, as the program writes it. None where memory is wanted.
+fn written(alloc: Global, reply: Option<&Reply>) -> Option<Vec<u8>>
+    ensures { IfSome result (λ text. text.items ≡ text_of (option_copied reply.entry)) }
+{
+    let mut text = Vec::new(alloc);
+    if let Some(reply) = reply {
+        reply.write(&mut text).ok()?;
+    }
+    Some(text)
+}
+
+/// The text of a reply, as much as fits, and how long it is in all.
+#[unsafe(no_mangle)]
+pub extern "C" fn cvl_text(
+    alloc: Global,
+    caller: &mut Caller,
+    number: u64,
+    out: &mut [u8],
+    length: &mut u64,
+) -> i32
+    ensures same { port_in caller.new ≡ port_in caller.old }
+    ensures reads { ReadsText result (port_in caller.old) number length.new out.old out.new }
+{
+    let port = match caller.take(alloc).into_port() {
+        Ok(port) => port,
+        Err(shut) => {
+            caller.give(shut);
+            *length = 0;
+            return OK;
+        }
+    };
+    let text = written(alloc, port.last.reply(number as usize));
+    caller.give(Caller::of(port));
+    let Some(text) = text else {
+        *length = 0;
+        return NO_MEMORY;
+    };
+    *length = copy(&text, out);
+    OK
+}
