@@ -8,11 +8,17 @@ use std::process::Abort;
 /// A script of a block of so many calls, and a line behind it.
 fn block_of(rt: &impl Abort, alloc: Global, calls: usize) -> Vec<u8> {
     let mut script = Vec::new(alloc);
-    script.extend_from_slice(b"cvl 2\n63: {\n").expect(rt, "memory");
+    script
+        .extend_from_slice(b"cvl 2\n63: {\n")
+        .expect(rt, "memory");
     for _ in 0..calls {
-        script.extend_from_slice(b"63: a = z 1\n").expect(rt, "memory");
+        script
+            .extend_from_slice(b"63: a = z 1\n")
+            .expect(rt, "memory");
     }
-    script.extend_from_slice(b"63: }\n0: get a").expect(rt, "memory");
+    script
+        .extend_from_slice(b"63: }\n0: get a")
+        .expect(rt, "memory");
     script
 }
 
@@ -77,7 +83,12 @@ fn is_cut_at_each_byte(rt: HostRuntime) {
     for cut in 0..SCRIPT.len() + 1 {
         let (text, status) = answer_at(cut);
         for step in [1, 5, 100] {
-            expect_ran(&rt, &run(&rt, &["serial"], &SCRIPT[..cut], step), text, status);
+            expect_ran(
+                &rt,
+                &run(&rt, &["serial"], &SCRIPT[..cut], step),
+                text,
+                status,
+            );
         }
     }
 }
