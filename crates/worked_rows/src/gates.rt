@@ -1,5 +1,9 @@
 //! Worker threads with gates that hold them or stop them.
 
+ghost use Rattle.std.specs.Prelude.{◌≤◌, vec_len};
+ghost use Rattle.call_history.specs.Callers.{caller_limit};
+ghost use Rattle.script_lines.specs.Readings.{AreLawful, lists_of};
+
 use crate::program::whole;
 use cvl_text::Reply;
 use scan_kernels::Sequential;
@@ -26,7 +30,10 @@ fn waits_for(word: &AtomicU64) -> bool {
 }
 
 /// The script of these bytes.
-fn script_of(rt: &impl Abort, alloc: Global, bytes: &[u8]) -> Script {
+fn script_of(rt: &impl Abort, alloc: Global, bytes: &[u8]) -> Script
+    ensures few { vec_len result.workers ≤ caller_limit }
+    ensures lawful { AreLawful (lists_of result.workers) }
+{
     let mut source = ReadSource::new(whole(bytes, 1000));
     read_script(alloc, &mut source).expect(rt, "no script")
 }
@@ -71,7 +78,6 @@ fn run_through<G: Gate + Sync>(
     gate: &G,
 ) -> Result<Came, RunFault> {
     let script = script_of(rt, rt.alloc(), script);
-    assert!(rt; script.workers.len() <= 64);
     let settled = run_threads(rt, rt.alloc(), script, 100, gate)?;
     Ok(came_of(rt, rt.alloc(), settled))
 }
