@@ -146,9 +146,12 @@ static int is_report_right(struct text input, struct ended ended)
     return ended.status == 0 && ended.printed.length >= (size_t)length && !memcmp(ended.printed.bytes + begin, last, (size_t)length);
 }
 
-/* The script is cut at each byte. */
+/* The script is cut at each byte. One of edition 2, whose blocks may be cut, is not: the tests of worked_rows cut those. */
 static void cut(const struct script *script)
 {
+    static char head[] = "cvl 2\n";
+    if (is(first_bytes(script->input, sizeof head - 1), (struct text){head, sizeof head - 1}))
+        return;
     for (size_t length = 0; length < script->input.length; length++) {
         refuse_nothing(plan);
         struct text input = first_bytes(script->input, length);
