@@ -146,7 +146,8 @@ static int is_report_right(struct text input, struct ended ended)
     return ended.status == 0 && ended.printed.length >= (size_t)length && !memcmp(ended.printed.bytes + begin, last, (size_t)length);
 }
 
-/* The script is cut at each byte. One of edition 2, whose blocks may be cut, is not: the tests of worked_rows cut those. */
+/* The script is cut at each byte. Those of edition 2 are left out, since what must be printed where a block is cut is not told here:
+   of them only a script of worked_rows is cut at each byte. */
 static void cut(const struct script *script)
 {
     static char head[] = "cvl 2\n";
