@@ -118,47 +118,59 @@ static int is_bad_line(struct text text, size_t line)
     return is(text, (struct text){bad, (size_t)length});
 }
 
+/* The number of the bad line where a script ends in a block: one behind its last line. */
+static size_t line_behind(struct text input)
+{
+    return lines_in(input) + (unended_line(input).length > 0) + 1;
+}
+
+/* Whether a script of these bytes was refused as it must be. `whole` says that what stands behind its last line feed, if anything,
+   is a whole line of the script it was cut from, and so no bad line by itself. */
+static int is_refused_right(struct text input, int whole, struct text printed)
+{
+    int may_be_cut_line = !whole && is_bad_line(printed, lines_in(input) + 1);
+    return may_be_cut_line || (ends_in_block(input) && is_bad_line(printed, line_behind(input)));
+}
+
 /* Whether a script of these bytes ended as it must, in mode serial: behind the replies of its whole lines stands one line more, a
-   reply or "bad line", where it ends inside a line that is no comment. */
-static int is_cut_right(const struct script *script, struct text input, struct ended ended)
+   reply or "bad line", where it ends inside a line that is no comment. No script with blocks is run in this mode here. */
+static int is_cut_right(const struct script *script, struct text input, int whole, struct ended ended)
 {
     struct text before = first_lines(script->output, calls_in(input)), left = unended_line(input);
     if (!is(first_bytes(ended.printed, before.length), before))
         return 0;
     struct text more = {ended.printed.bytes + before.length, ended.printed.length - before.length};
-    if (left.length == 0 || *left.bytes == '#')
+    if (!is_call(left))
         return more.length == 0 && ended.status == 0;
     if (ended.status == 2)
-        return is_bad_line(more, lines_in(input) + 1);
+        return is_refused_right(input, whole, more);
     return ended.status == 0 && lines_in(more) == 1 && more.bytes[more.length - 1] == '\n' && *more.bytes == *left.bytes;
 }
 
-/* The same in mode threads: a report of as many calls, or the bad line alone. */
-static int is_report_right(struct text input, struct ended ended)
+/* The same in mode threads: a report of as many calls, which no script that ends in a block has, or the bad line alone. */
+static int is_report_right(struct text input, int whole, struct ended ended)
 {
-    struct text left = unended_line(input);
     char last[64];
     if (ended.status == 2)
-        return is_bad_line(ended.printed, lines_in(input) + 1);
-    size_t calls = calls_in(input) + (left.length > 0 && *left.bytes != '#');
+        return is_refused_right(input, whole, ended.printed);
+    size_t calls = calls_in(input) + is_call(unended_line(input));
     int length = snprintf(last, sizeof last, "history %zu\naudit ok\n", calls);
     size_t begin = ended.printed.length - (size_t)length;
-    return ended.status == 0 && ended.printed.length >= (size_t)length && !memcmp(ended.printed.bytes + begin, last, (size_t)length);
+    return ended.status == 0 && !ends_in_block(input) && ended.printed.length >= (size_t)length &&
+           !memcmp(ended.printed.bytes + begin, last, (size_t)length);
 }
 
-/* The script is cut at each byte. Those of edition 2 are left out, since what must be printed where a block is cut is not told here:
-   of them only a script of worked_rows is cut at each byte. */
+/* The script is cut at each byte. */
 static void cut(const struct script *script)
 {
-    static char head[] = "cvl 2\n";
-    if (is(first_bytes(script->input, sizeof head - 1), (struct text){head, sizeof head - 1}))
-        return;
     for (size_t length = 0; length < script->input.length; length++) {
         refuse_nothing(plan);
         struct text input = first_bytes(script->input, length);
+        struct text left = unended_line(input);
+        int whole = left.length == 0 || *left.bytes == '#' || script->input.bytes[length] == '\n';
         struct ended ended = run(script->mode, input);
         cuts++;
-        int right = is_serial(script) ? is_cut_right(script, input, ended) : is_report_right(input, ended);
+        int right = is_serial(script) ? is_cut_right(script, input, whole, ended) : is_report_right(input, whole, ended);
         expect(right, script, "cut at byte", (long)length, ended);
     }
 }

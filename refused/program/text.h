@@ -13,8 +13,14 @@ int is_first_lines(struct text text, struct text of);
 /* How many lines a text ends. */
 size_t lines_in(struct text text);
 
-/* How many calls stand in the whole lines of a script: each line is one but for comments and empty lines. */
+/* Whether a line is a call: no comment, not empty, not the head of a script of edition 2 and no brace of a block. */
+int is_call(struct text line);
+
+/* How many calls stand in the whole lines of a script. */
 size_t calls_in(struct text script);
+
+/* Whether a block is open at the end of a script, its last line counted whether it is ended or not. */
+int ends_in_block(struct text script);
 
 /* The first lines of a text, so many, or all. */
 struct text first_lines(struct text text, size_t count);
