@@ -26,7 +26,8 @@ const REPEATS: u32 = 200;
 /// The room of the books.
 const ROOM: u64 = 1 << 16;
 
-fn set(book: &mut Book, alloc: Global, to: Name, items: Vec<i64>) -> Option<()> {
+/// Sets a name to so many numbers.
+pub fn set(book: &mut Book, alloc: Global, to: Name, items: Vec<i64>) -> Option<()> {
     let call = Call::SetInts { to, items };
     book.run(&Sequential, alloc, 0, call).ok()?;
     Some(())

@@ -1,12 +1,13 @@
 //! The benchmark program. `bench kernels` times the kernels, and prints a line for each row:
 //! `kernels TAB row TAB cvl TAB nanoseconds an item`, where a row is a kernel and how many items it runs over.
-//! `bench shared` times threads that share a machine, as `rates.rt` and `latencies.rt` say. `bench shared WORDS` prints the rows
-//! of those loads alone whose name begins so, as `bench shared "T=4 len=16"`. `bench batch` times batches, as `batch.rt` says,
+//! `bench shared` times threads that share a machine, as `rates.rt` and `latencies.rt` say, and beside them a book by itself, as `alone.rt`
+//! says. `bench shared WORDS` prints the rows of those loads alone whose name begins so, as `bench shared "T=4 len=16"`. `bench batch` times batches, as `batch.rt` says,
 //! and how they are planned, as `plans.rt` says. `bench chunks` times kernels in threads, as `chunks.rt` says, and `bench over`
 //! results that are written over an operand, as `over.rt` says, and `bench blocks` blocks of calls on a book, as `blocks.rt` says. Without arguments it prints its usage; so it does for other
 //! arguments, and for words with which no load's name begins, with status 2.
 #![tactic(auto)]
 
+mod alone;
 mod batch;
 mod blocks;
 mod calls;

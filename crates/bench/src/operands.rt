@@ -35,8 +35,8 @@ pub fn add(x: Name, y: Name) -> Call {
 /// So many calls `x = add_wuz x y`. None where memory is refused.
 pub fn adds(alloc: Global, count: u32, x: Name, y: Name) -> Option<Vec<Call>> {
     let mut calls = Vec::with_capacity(alloc, count as usize).ok()?;
-    for _ in 0..count {
-        calls.push(add(x, y)).ok()?;
+    for _made in 0..count {
+        calls.push_reserved(add(x, y));
     }
     Some(calls)
 }

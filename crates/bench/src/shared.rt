@@ -1,6 +1,7 @@
-//! The rows of the shared machine: calls a second of all threads together, and how long one thread waits for an answer.
+//! The rows of the shared machine: calls a second of all threads together, and how long one thread waits for an answer; and of a book
+//! by itself.
 
-use crate::{latencies, rates};
+use crate::{alone, latencies, rates};
 use std::alloc::Global;
 use std::io;
 use std::rt::Clock;
@@ -14,5 +15,6 @@ pub fn rows<R: Alloc<A = Global> + Clock + Print + Threads + Wait + Sync>(
 ) -> io::Result<bool> {
     let rated = rates::rows(rt, words)?;
     let timed = latencies::rows(rt, words)?;
-    Ok(rated || timed)
+    let alone = alone::rows(rt, words)?;
+    Ok(rated || timed || alone)
 }
