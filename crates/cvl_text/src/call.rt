@@ -3,15 +3,15 @@ use vector_memory::Name;
 
 /// A call: what one line asks of the machine. `to` is the name that gets the result; the other names are read. Where a
 /// segment list may be named, none stands for one segment. Three names lie in place and further ones behind a pointer, so
-/// that a call takes 64 bytes.
+/// that a call takes 88 bytes. A vector has at most so many items as the memory's edition says (`Edition::limit`).
 #[derive(Debug, Drop)]
 pub enum Call {
-    /// `to = z x ..`: the integers, at most 1,048,576.
+    /// `to = z x ..`: the integers.
     SetInts {
         to: Name,
         items: Vec<i64>,
     },
-    /// `to = b T F ..`: the truth values, at most 1,048,576.
+    /// `to = b T F ..`: the truth values.
     SetBools {
         to: Name,
         items: Vec<bool>,
@@ -29,7 +29,7 @@ pub enum Call {
     Free {
         a: Name,
     },
-    /// `to = alo_foz n`: n zeros, from 0 to 1,048,576.
+    /// `to = alo_foz n`: n zeros, from 0 to the limit of the edition.
     Alo {
         to: Name,
         n: i64,
@@ -38,7 +38,7 @@ pub enum Call {
     Len {
         a: Name,
     },
-    /// `to = mke_fov a`: the segment list of these lengths, none below 0, with a sum of at most 1,048,576.
+    /// `to = mke_fov a`: the segment list of these lengths, none below 0, with a sum up to the limit of the edition.
     MakeSegs {
         to: Name,
         a: Name,

@@ -16,7 +16,7 @@ pub enum Fault {
     ZeroDivisor,
     /// A shift by a count outside 0 to 63.
     BadShift,
-    /// A value of more than 1,048,576 items.
+    /// A value of more items than the memory's edition lets one have (`Edition::limit`).
     TooLong,
     /// The memory has no room for the value.
     NoRoom,
