@@ -4,7 +4,7 @@ ghost use Rattle.std.specs.Prelude.{◌≡◌, ◌+◌, ◌++◌, ◌≤◌, ◌
 ghost use Rattle.scan_kernels.specs.Metering.{Metered};
 ghost use Rattle.vector_memory.specs.States.{changes_left, ended, undone};
 ghost use Rattle.cvl_text.specs.Answers.{answer_of};
-ghost use Rattle.call_history.specs.Blocks.{RisesBy, after, block_entries, metered, replies_to};
+ghost use Rattle.call_history.specs.Blocks.{RisesBy, after, block_entries, block_limit, metered, replies_to};
 ghost use Rattle.call_history.specs.Callers.{AreTickets, HasLawfulCallers, IsTicketed};
 
 use crate::book::{CALLER_LIMIT, enter};
@@ -51,6 +51,7 @@ pub(crate) fn enter_each(
     calls: Vec<Call>,
 ) -> u64
     requires caller { caller < CALLER_LIMIT }
+    requires few { length calls.items ≤ block_limit }
     requires space { vec_len entries.old + length calls.items ≤ vec_capacity entries.old }
     requires counted { AreTickets tickets.old.value entries.old.items }
     requires ticketed { IsTicketed entries.old.items }

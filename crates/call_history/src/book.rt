@@ -61,6 +61,7 @@ pub(crate) fn enter(
     rest: u64,
 ) -> u64
     requires caller { caller < CALLER_LIMIT }
+    requires rest { rest < block_limit }
     requires space { vec_len entries.old < vec_capacity entries.old }
     requires counted { AreTickets tickets.old.value entries.old.items }
     requires ticketed { IsTicketed entries.old.items }
@@ -75,10 +76,10 @@ pub(crate) fn enter(
     let place = entries.len() as u64;
     let ticket = tickets[caller as usize];
     entries.push_reserved(Entry {
-        caller,
+        caller: caller as u8,
         ticket,
         call,
-        rest,
+        rest: rest as u16,
     });
     tickets[caller as usize] = ticket + 1;
     place

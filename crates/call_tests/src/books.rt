@@ -45,7 +45,7 @@ fn stands_at(book: &Book, place: usize, caller: u64, ticket: u64) -> bool {
         return false;
     }
     let entry = book.entry(place);
-    entry.caller == caller && entry.ticket == ticket
+    u64::from(entry.caller) == caller && entry.ticket == ticket
 }
 
 /// Whether the book is the one of the first test.

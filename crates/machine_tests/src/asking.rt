@@ -155,5 +155,5 @@ pub(crate) fn stands_at(book: &Book, place: usize, caller: u64, ticket: u64) -> 
         return false;
     }
     let entry = book.entry(place);
-    entry.caller == caller && entry.ticket == ticket
+    u64::from(entry.caller) == caller && entry.ticket == ticket
 }

@@ -138,7 +138,7 @@ fn is_as_told(book: &Book, caller: usize, told: &[Told]) -> bool {
     let mut heard = 0;
     for place in 0..book.len() {
         let entry = book.entry(place);
-        if entry.caller == caller as u64 {
+        if entry.caller as usize == caller {
             if heard < told.len() && told[heard] != news_of(entry, place, number) {
                 return false;
             }

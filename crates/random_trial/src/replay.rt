@@ -76,7 +76,7 @@ fn replay_entries(
 {
     for place in 0..book.len() {
         let entry = book.entry(place);
-        replay_call(alloc, memory, replay, entry.caller, &entry.call)?;
+        replay_call(alloc, memory, replay, u64::from(entry.caller), &entry.call)?;
     }
     Some(())
 }

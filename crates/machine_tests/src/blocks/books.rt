@@ -45,7 +45,7 @@ fn stands_at(book: &Book, place: usize, caller: u64, ticket: u64, rest: u64) -> 
         return false;
     }
     let entry = book.entry(place);
-    entry.caller == caller && entry.ticket == ticket && entry.rest == rest
+    u64::from(entry.caller) == caller && entry.ticket == ticket && u64::from(entry.rest) == rest
 }
 
 const FAULTY: &[&[u8]] = &[b"a = z 1 2", b"b = z 3 4 5", b"get a"];
