@@ -1,5 +1,6 @@
 mod Seats
 mod Turns
+mod Begun
 mod Owning
 mod Batches
 mod PassSteps

@@ -1,7 +1,7 @@
 -- A call that runs while its caller has the book.
 -- `HasEntered` is the call and its entry, `HasEnteredBlock` the same of a block, `KeepsCall` what a caller knows while others are served, and `IsEnded` what it knows where a call
--- of its own ends.
-use Rattle.std.specs.Prelude.{◌≡◌, ℕ, ◌+◌, true, List, [], ◌∷◌, length}
+-- of its own ends. `IsBegun` is what it is told of a call that it begins.
+use Rattle.std.specs.Prelude.{◌≡◌, ◌⊎◌, ℕ, ◌+◌, true, List, [], ◌∷◌, length}
 use Rattle.cvl_text.specs.declared.call.Call.{Call}
 use Rattle.cvl_text.specs.declared.reply.Reply.{Reply}
 use Rattle.cvl_text.specs.Answers.{Answer, answer_of}
@@ -12,8 +12,9 @@ use Rattle.request_slots.specs.declared.known.Known.{Known}
 use Rattle.request_slots.specs.Views.{entering_line}
 use Rattle.combiner.specs.Standing.{Standing, IsIdle}
 use Rattle.combiner.specs.declared.answers.Polled.{Polled}
+use Rattle.combiner.specs.declared.answers.Polled.TheVariants as poll
 use Rattle.combiner.specs.Cases.{is_told, IfAnswered, IfBack, IfBlockAnswered, IfBlockBack}
-use Rattle.combiner.specs.Says.{Continues, KeepsNotes, IsAnswered, IsGivenBack, IsBlockAnswered, IsBlockGivenBack}
+use Rattle.combiner.specs.Says.{leaving, Continues, KeepsNotes, IsAnswered, IsAnsweredTo, IsGivenBack, IsBlockAnswered, IsBlockGivenBack, MeetsAnother}
 
 -- The call stands last in the history, at this place, and has this reply there. The history is the one committed, and answers the
 -- call to its caller.
@@ -57,6 +58,19 @@ pub record IsEnded (c d : Standing) : Type 0 where
   pub idle : IsIdle d
   pub later : Begins c.seen d.seen
   pub notes : KeepsNotes c d
+
+-- It did not try for the book, or it did and met another caller that had it.
+abbrev pub MayHaveMet : Standing → Standing → Type 0
+MayHaveMet c d = (d ≡ c) ⊎ MeetsAnother c d
+
+-- A call was begun: it was answered at once; it came back, with the record as before; or it is left.
+abbrev pub IsBegun : Call → Standing → Standing → Polled → Type 0
+IsBegun call c d poll.Idle = ⊥
+IsBegun call c d poll.Waiting = (tried : Standing) × MayHaveMet c tried × (d ≡ leaving tried call)
+IsBegun call c d (poll.Answered place reply) = IsAnsweredTo call c d place reply × IsEnded c d
+IsBegun call c d (poll.OutOfMemory back) = (back ≡ call) × (d.own ≡ c.own) × IsEnded c d
+IsBegun call c d (poll.AnsweredBlock place replies) = ⊥
+IsBegun call c d (poll.OutOfMemoryBlock calls) = ⊥
 
 -- it waited for the book, and found others with it
 abbrev pub HasWaited : Standing → Standing → Type 0

@@ -1,5 +1,6 @@
 //! The calls of a machine, one or two a file.
 
+mod begin;
 mod call;
 mod call_block;
 mod combine;

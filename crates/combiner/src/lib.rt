@@ -3,7 +3,7 @@
 //! order; each such history is a beginning of one history.
 //!
 //! A caller leaves its call, and whichever caller finds the book free serves all that were left: flat combining (Hendler,
-//! Incze, Shavit and Tzafrir, 2010). `post`, `post_block`, `poll`, `look`, `meet` and `combine` never wait for another thread.
+//! Incze, Shavit and Tzafrir, 2010). `begin`, `post`, `post_block`, `poll`, `look`, `meet` and `combine` never wait for another thread.
 #![tactic(auto)]
 
 mod answers;

@@ -3,9 +3,9 @@ ghost use Rattle.call_history.specs.History.{Begins};
 ghost use Rattle.combiner.specs.Standing.{IsIdle, Rests};
 ghost use Rattle.combiner.specs.Says.{IsAnsweredTo, KeepsNotes};
 
+use crate::answers::Polled;
 use crate::caller::Caller;
 use crate::calls::wait::FIRST_PAUSE;
-use crate::own::run_own;
 use crate::shared::Shared;
 use cvl_text::{Call, Reply};
 use scan_kernels::Sequential;
@@ -39,22 +39,13 @@ impl Shared {
         ensures back { IfErr result (λ refused. refused.0 ≡ call) }
         ensures record_kept { OnErr result (caller.new.own ≡ caller.old.own) }
     {
-        if caller.leads {
-            let seat = &mut caller.seat;
-            if let Some(desk) = self.slots.step_lock(seat) {
-                return run_own(
-                    &Sequential,
-                    alloc,
-                    &self.slots,
-                    seat,
-                    self.callers,
-                    desk,
-                    call,
-                );
-            }
+        match self.begin(&Sequential, alloc, caller, call) {
+            Polled::Answered { place, reply } => Ok((place, reply)),
+            Polled::OutOfMemory(call) => Err((call, OutOfMemory)),
+            Polled::Waiting => self.ask(&Sequential, rt, alloc, caller, FIRST_PAUSE),
+            Polled::Idle => unreachable!(),
+            Polled::AnsweredBlock { .. } => unreachable!(),
+            Polled::OutOfMemoryBlock(_) => unreachable!(),
         }
-        caller.leads = false;
-        self.leave_call(caller, call);
-        self.ask(&Sequential, rt, alloc, caller, FIRST_PAUSE)
     }
 }
