@@ -5,8 +5,8 @@
  * A machine has 1 to 64 callers. A thread holds a caller and gives it to one call at a time; two callers may be in calls at once, and
  * a caller may go to another thread by whatever orders the two: a lock, a thread's start or join, a sequentially consistent atomic.
  * A caller leaves a call or a block (cvl_post and its kin), any caller serves what was left (cvl_serve), and the caller asks what
- * became of its own (cvl_poll). No function waits. None may be called from a signal handler, or in a child that was forked from a
- * process with threads.
+ * became of its own (cvl_poll); or it begins a call (cvl_begin), which runs at once where nobody else has the book. No function waits.
+ * None may be called from a signal handler, or in a child that was forked from a process with threads.
  *
  * Who owns what: a caller owns its part of the machine until it is closed; close every caller, the last one closes the machine.
  * What is posted is copied before the function returns, and what is read is copied out; no pointer is kept.
@@ -145,6 +145,15 @@ int32_t cvl_forget(cvl_caller *caller);
 int32_t cvl_post_prepared(cvl_caller *caller, uint64_t number);
 int32_t cvl_post_prepared_block(cvl_caller *caller, const uint64_t *numbers, size_t count);
 
+/* Each begins a call, where nothing is left yet: it runs at once if no other caller has the book, which takes less time than to leave it
+ * and to serve it, and else it is left. The thread that holds the caller.
+ * CVL_ANSWERED, and the answer shows the reply; CVL_WAITING: it is left, as by cvl_post; or as cvl_post below 0, and nothing was left. */
+
+/* The call of a line. CVL_BAD_CALL. */
+int32_t cvl_begin(cvl_caller *caller, const char *line, size_t length, cvl_answer *answer);
+/* The prepared call of a number. CVL_NOT_PREPARED. */
+int32_t cvl_begin_prepared(cvl_caller *caller, uint64_t number, cvl_answer *answer);
+
 /* Serves what all callers have left, unless another caller does just then: CVL_SERVED, CVL_BUSY, CVL_SHUT. Any caller serves for all.
  * The thread that holds the caller. */
 int32_t cvl_serve(cvl_caller *caller, cvl_served *served);
@@ -197,6 +206,8 @@ static inline cvl_caller *cvl_or_shut(cvl_caller *caller)
 #define cvl_forget(caller) cvl_forget(cvl_or_shut(caller))
 #define cvl_post_prepared(caller, number) cvl_post_prepared(cvl_or_shut(caller), number)
 #define cvl_post_prepared_block(caller, numbers, count) cvl_post_prepared_block(cvl_or_shut(caller), numbers, count)
+#define cvl_begin(caller, line, length, answer) cvl_begin(cvl_or_shut(caller), line, length, answer)
+#define cvl_begin_prepared(caller, number, answer) cvl_begin_prepared(cvl_or_shut(caller), number, answer)
 #define cvl_serve(caller, served) cvl_serve(cvl_or_shut(caller), served)
 #define cvl_poll(caller, answer) cvl_poll(cvl_or_shut(caller), answer)
 #define cvl_step(caller, answer) cvl_step(cvl_or_shut(caller), answer)
@@ -246,34 +257,60 @@ static inline const char *cvl_fault_text(uint32_t fault)
 
 #ifndef CVL_NO_WAIT
 #include <sched.h>
-/* Serves and asks until what was left is answered. How to wait is the program's affair, and this is one way: a short pause, and after
- * some of them the processor to others. A runtime defines CVL_NO_WAIT, and lets its own tasks run between two steps. */
-static inline int32_t cvl_wait(cvl_caller *caller, cvl_answer *answer)
+/* How many turns a caller that found another with the book lets pass before it tries again: at first, and at most. */
+enum { CVL_FIRST_PAUSE = 512, CVL_LAST_PAUSE = 2048 };
+
+/* Lets so many turns pass, and after the longest pause the processor goes to others. */
+static inline void cvl_pause(uint32_t turns)
 {
-    unsigned pause = 64;
+    for (uint32_t turn = 0; turn < turns; turn++) {
+#if defined(__x86_64__) && defined(__GNUC__)
+        __builtin_ia32_pause();
+#elif defined(__GNUC__)
+        __asm__ volatile("" ::: "memory");
+#endif
+    }
+    if (turns == CVL_LAST_PAUSE)
+        sched_yield();
+}
+
+/* Lets so many turns pass, then asks and serves until what was left is answered. */
+static inline int32_t cvl_wait_after(cvl_caller *caller, uint32_t turns, cvl_answer *answer)
+{
     for (;;) {
-        int32_t told = cvl_step(caller, answer);
+        cvl_served served;
+        cvl_pause(turns);
+        int32_t told = cvl_poll(caller, answer);
         if (told != CVL_WAITING)
             return told;
-        for (unsigned i = 0; i < pause; i++) {
-#if defined(__x86_64__) && defined(__GNUC__)
-            __builtin_ia32_pause();
-#elif defined(__GNUC__)
-            __asm__ volatile("" ::: "memory");
-#endif
-        }
-        if (pause < 1024)
-            pause *= 2;
+        if (cvl_serve(caller, &served) != CVL_BUSY)
+            turns = 0;
+        else if (turns < CVL_FIRST_PAUSE)
+            turns = CVL_FIRST_PAUSE;
         else
-            sched_yield();
+            turns = CVL_LAST_PAUSE < 2 * turns ? CVL_LAST_PAUSE : 2 * turns;
     }
 }
 
-/* Leaves the call of a line, and waits for its answer: CVL_ANSWERED, or below 0. */
+/* Asks and serves until what was left is answered. How to wait is the program's affair, and this is one way, as the library's own callers
+ * wait. A runtime defines CVL_NO_WAIT, and lets its own tasks run between two steps. */
+static inline int32_t cvl_wait(cvl_caller *caller, cvl_answer *answer)
+{
+    return cvl_wait_after(caller, 0, answer);
+}
+
+/* Begins the call of a line, and waits for its answer where it was left: CVL_ANSWERED, or below 0. */
 static inline int32_t cvl_call(cvl_caller *caller, const char *line, size_t length, cvl_answer *answer)
 {
-    int32_t posted = cvl_post(caller, line, length);
-    return posted == CVL_OK ? cvl_wait(caller, answer) : posted;
+    int32_t begun = cvl_begin(caller, line, length, answer);
+    return begun == CVL_WAITING ? cvl_wait_after(caller, CVL_FIRST_PAUSE, answer) : begun;
+}
+
+/* The same of the prepared call of a number. */
+static inline int32_t cvl_call_prepared(cvl_caller *caller, uint64_t number, cvl_answer *answer)
+{
+    int32_t begun = cvl_begin_prepared(caller, number, answer);
+    return begun == CVL_WAITING ? cvl_wait_after(caller, CVL_FIRST_PAUSE, answer) : begun;
 }
 #endif
 

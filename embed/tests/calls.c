@@ -55,6 +55,8 @@ static void shut_callers(cvl_caller *caller)
     CHECK(cvl_forget(caller) == CVL_SHUT);
     CHECK(cvl_post_prepared(caller, 0) == CVL_SHUT);
     CHECK(cvl_post_prepared_block(caller, &number, 1) == CVL_SHUT);
+    CHECK(cvl_begin(caller, "a = z 1", 7, &answer) == CVL_SHUT && answer.kind == 7);
+    CHECK(cvl_begin_prepared(caller, 0, &answer) == CVL_SHUT && answer.kind == 7);
     CHECK(cvl_serve(caller, &served) == CVL_SHUT);
     CHECK(cvl_poll(caller, &answer) == CVL_SHUT);
     CHECK(cvl_step(caller, &answer) == CVL_SHUT);
@@ -118,6 +120,28 @@ static void posting(cvl_caller *caller)
         CHECK(strcmp(cvl_fault_text(fault), "no fault") != 0);
     for (int32_t status = -12; status < 0; status++)
         CHECK(status == -11 || strcmp(cvl_status_text(status), "unknown") != 0);
+}
+
+/* A call that is begun with nobody else about is answered at once. */
+static void beginning(cvl_caller *caller)
+{
+    cvl_answer answer;
+    uint64_t before = cvl_look(caller), set;
+    CHECK(cvl_begin(caller, "a = zz 1", 8, &answer) == CVL_BAD_CALL);
+    CHECK(cvl_begin_prepared(caller, 0, &answer) == CVL_NOT_PREPARED);
+    CHECK(cvl_begin(caller, "g = z 4 5", 9, &answer) == CVL_ANSWERED);
+    CHECK(answer.kind == CVL_DONE && answer.place == before && answer.replies == 1);
+    CHECK(cvl_poll(caller, &answer) == CVL_IDLE);
+    CHECK(cvl_begin(caller, "add_ruz g", 9, &answer) == CVL_ANSWERED && answer.kind == CVL_INT && answer.value == 9);
+    CHECK(cvl_begin(caller, "add_ruz nobody", 14, &answer) == CVL_ANSWERED && answer.kind == CVL_FAULT);
+    CHECK(cvl_prepare(caller, "g = add_wuz g g", 15, &set) == CVL_OK && set == 0);
+    CHECK(cvl_begin_prepared(caller, set, &answer) == CVL_ANSWERED && answer.place == before + 3);
+    CHECK(cvl_call_prepared(caller, set, &answer) == CVL_ANSWERED && answer.place == before + 4);
+    CHECK(cvl_forget(caller) == CVL_OK);
+    CHECK(post(caller, "g = z 1") == CVL_OK);
+    CHECK(cvl_begin(caller, "g = z 2", 7, &answer) == CVL_OCCUPIED);
+    CHECK(cvl_wait(caller, &answer) == CVL_ANSWERED);
+    CHECK(cvl_look(caller) == before + 6);
 }
 
 static void typed(cvl_caller *caller)
@@ -243,6 +267,7 @@ int main(void)
     opening();
     CHECK(cvl_open(100000, &one, 1) == CVL_OK && cvl_open(10, &other, 1) == CVL_OK);
     posting(&one);
+    beginning(&one);
     ask(&other, "a = z 7");
     typed(&one);
     blocks(&one);

@@ -15,6 +15,11 @@ abbrev pub post_answer : ℤ → Result (Unit {0}) PostFault
 post_answer (pos n) = Ok tt
 post_answer (negsuc n) = Err (post_fault n)
 
+-- 1: it is left. 2: it was answered at once. Below 0 as where nothing was left.
+abbrev pub begin_answer : ℤ → Result Bool PostFault
+begin_answer (pos n) = Ok (n == 2)
+begin_answer (negsuc n) = Err (post_fault n)
+
 -- 0 idle, 1 waiting, 2 answered, 3 a block answered; below 0 want of memory
 abbrev pub told_by : ℤ → Told
 told_by (pos n) = if n == 0 then told.Idle else if n == 1 then told.Waiting else if n == 2 then told.Answered else told.AnsweredBlock

@@ -3,6 +3,7 @@
 #![tactic(auto)]
 
 mod answer;
+mod beginning;
 mod caller;
 mod closing;
 mod handle;

@@ -1,7 +1,7 @@
 //! The numbers that C gets.
 
-ghost use Rattle.std.specs.Prelude.{◌≡◌};
-ghost use Rattle.cvl_c.specs.Statuses.{post_answer, told_by};
+ghost use Rattle.std.specs.Prelude.{◌≡◌, Err};
+ghost use Rattle.cvl_c.specs.Statuses.{begin_answer, post_answer, told_by};
 
 use cvl_port::{PostFault, Told};
 
@@ -29,18 +29,38 @@ pub(crate) const NOT_SHUT: i32 = -10;
 /// There is no reply of this number.
 pub(crate) const NO_REPLY: i32 = -12;
 
+fn fault_status(fault: PostFault) -> i32
+    ensures left { post_answer result ≡ Err fault }
+    ensures begun { begin_answer result ≡ Err fault }
+{
+    match fault {
+        PostFault::OutOfMemory => NO_MEMORY,
+        PostFault::BadCall => BAD_CALL,
+        PostFault::BadName => -4,
+        PostFault::BadCount => -5,
+        PostFault::NotPrepared => -6,
+        PostFault::Occupied => -7,
+    }
+}
+
 /// Whether a call was left.
 pub(crate) fn post_status(answer: Result<(), PostFault>) -> i32
     ensures { post_answer result ≡ answer }
 {
     match answer {
         Ok(()) => OK,
-        Err(PostFault::OutOfMemory) => NO_MEMORY,
-        Err(PostFault::BadCall) => BAD_CALL,
-        Err(PostFault::BadName) => -4,
-        Err(PostFault::BadCount) => -5,
-        Err(PostFault::NotPrepared) => -6,
-        Err(PostFault::Occupied) => -7,
+        Err(fault) => fault_status(fault),
+    }
+}
+
+/// Whether a call was answered at once, or is left.
+pub(crate) fn begin_status(answer: Result<bool, PostFault>) -> i32
+    ensures { begin_answer result ≡ answer }
+{
+    match answer {
+        Ok(true) => 2,
+        Ok(false) => 1,
+        Err(fault) => fault_status(fault),
     }
 }
 

@@ -2,4 +2,5 @@ pub mod Replies
 pub mod Ports
 pub mod Lines
 pub mod Posts
+pub mod Begun
 pub mod Closings

@@ -4,6 +4,7 @@
 #![tactic(auto)]
 
 mod answers;
+mod beginning;
 mod calls;
 mod closing;
 mod copying;

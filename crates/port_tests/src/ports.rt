@@ -27,6 +27,24 @@ fn is_told(port: &mut Port, alloc: Global) -> bool {
         && port.look() == 3
 }
 
+/// Whether calls that are begun with nobody else about are answered at once.
+fn begins(port: &mut Port, alloc: Global) -> bool {
+    port.begin_line(alloc, b"g = zz") == Err(PostFault::BadCall)
+        && port.begin_prepared(alloc, 0) == Err(PostFault::NotPrepared)
+        && port.begin_line(alloc, b"g = z 4 5") == Ok(true)
+        && port.place == 3
+        && replies(port, alloc, 0, b"ok")
+        && port.poll() == Told::Idle
+        && port.begin_line(alloc, b"add_ruz g") == Ok(true)
+        && replies(port, alloc, 0, b"int 9")
+        && port.prepare(alloc, b"g = add_wuz g g") == Ok(0)
+        && port.begin_prepared(alloc, 0) == Ok(true)
+        && port.post_line(alloc, b"add_ruz g") == Ok(())
+        && port.begin_prepared(alloc, 0) == Err(PostFault::Occupied)
+        && told(port, alloc, Told::Answered)
+        && replies(port, alloc, 0, b"int 18")
+}
+
 /// Whether arrays are set and got.
 fn sets(port: &mut Port, alloc: Global) -> bool {
     port.post_ints(alloc, b"A", &[1]) == Err(PostFault::BadName)
@@ -73,6 +91,8 @@ fn one_port(rt: HostRuntime) {
     let mut ports = opened(&rt, rt.alloc(), 1);
     let mut port = ports.pop().expect(&rt, "a port");
     assert!(rt; is_told(&mut port, rt.alloc()));
+    assert!(rt; begins(&mut port, rt.alloc()));
+    port.forget();
     assert!(rt; sets(&mut port, rt.alloc()));
     assert!(rt; blocks(&mut port, rt.alloc()));
     assert!(rt; prepares(&mut port, rt.alloc()));

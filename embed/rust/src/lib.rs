@@ -54,6 +54,10 @@ use raw::{Answer, Status};
 use std::hint;
 use std::thread;
 
+/// How many turns a caller that found another with the book lets pass before it tries again: at first, and at most.
+const FIRST_PAUSE: u32 = 512;
+const LAST_PAUSE: u32 = 2048;
+
 /// A machine, from which its callers come.
 pub struct Machine;
 
@@ -174,6 +178,21 @@ impl Caller {
         Error::check(unsafe { raw::cvl_post_prepared_block(&mut self.raw, numbers.as_ptr(), numbers.len()) })
     }
 
+    /// Begins the call of a line: it runs at once if no other caller has the book, and else it is left, and this tells
+    /// [`Told::Waiting`]. It does not wait.
+    pub fn begin(&mut self, line: &str) -> Result<Told, Error> {
+        let mut answer = Answer::default();
+        let status = unsafe { raw::cvl_begin(&mut self.raw, line.as_ptr(), line.len(), &mut answer) };
+        told(status, answer)
+    }
+
+    /// Begins a prepared call.
+    pub fn begin_prepared(&mut self, call: Prepared) -> Result<Told, Error> {
+        let mut answer = Answer::default();
+        let status = unsafe { raw::cvl_begin_prepared(&mut self.raw, call.0, &mut answer) };
+        told(status, answer)
+    }
+
     /// Serves what all callers have left. None where another caller does just then. It does not wait.
     pub fn serve(&mut self) -> Result<Option<Served>, Error> {
         let mut served = Served { calls: 0, waves: 0, kernels: 0 };
@@ -198,18 +217,23 @@ impl Caller {
         told(status, answer)
     }
 
-    /// Steps until what was left is answered.
+    /// Asks and serves until what was left is answered.
     pub fn wait(&mut self) -> Result<Told, Error> {
-        let mut turns = 0u32;
+        self.wait_after(0)
+    }
+
+    /// Lets so many turns pass, then asks and serves until what was left is answered.
+    fn wait_after(&mut self, mut turns: u32) -> Result<Told, Error> {
         loop {
-            match self.step()? {
-                Told::Waiting if turns < 16 => {
-                    turns += 1;
-                    (0..64 << turns.min(4)).for_each(|_| hint::spin_loop());
-                }
-                Told::Waiting => thread::yield_now(),
+            pause(turns);
+            match self.poll()? {
+                Told::Waiting => {}
                 told => return Ok(told),
             }
+            turns = match self.serve()? {
+                Some(_) => 0,
+                None => (2 * turns).clamp(FIRST_PAUSE, LAST_PAUSE),
+            };
         }
     }
 
@@ -229,10 +253,23 @@ impl Caller {
         Ok(text.into_iter().map(char::from).collect())
     }
 
-    /// Leaves the call of a line and waits for its reply. A fault is an error.
+    /// Begins the call of a line and waits for its reply. A fault is an error.
     pub fn call(&mut self, line: &str) -> Result<Reply, Error> {
-        self.post(line)?;
-        self.answer()
+        let begun = self.begin(line)?;
+        self.end(begun)
+    }
+
+    /// The same of a prepared call.
+    pub fn call_prepared(&mut self, call: Prepared) -> Result<Reply, Error> {
+        let begun = self.begin_prepared(call)?;
+        self.end(begun)
+    }
+
+    fn end(&mut self, begun: Told) -> Result<Reply, Error> {
+        if begun == Told::Waiting {
+            self.wait_after(FIRST_PAUSE)?;
+        }
+        self.first_reply()
     }
 
     /// Sets a name to these integers, and waits.
@@ -244,6 +281,10 @@ impl Caller {
     /// Waits for the reply to the call that was left. A fault is an error.
     pub fn answer(&mut self) -> Result<Reply, Error> {
         self.wait()?;
+        self.first_reply()
+    }
+
+    fn first_reply(&mut self) -> Result<Reply, Error> {
         match self.reply(0) {
             Some(Reply::Fault(fault)) => Err(Error::Fault(fault)),
             Some(reply) => Ok(reply),
@@ -280,6 +321,14 @@ impl Drop for Caller {
         if self.raw.is_open() {
             let _ = self.shut();
         }
+    }
+}
+
+/// Lets so many turns pass, and after the longest pause the processor goes to others.
+fn pause(turns: u32) {
+    (0..turns).for_each(|_| hint::spin_loop());
+    if turns == LAST_PAUSE {
+        thread::yield_now();
     }
 }
 

@@ -69,6 +69,8 @@ unsafe extern "C" {
     pub fn cvl_prepare(caller: *mut Caller, line: *const u8, length: usize, number: *mut u64) -> Status;
     pub fn cvl_post_prepared(caller: *mut Caller, number: u64) -> Status;
     pub fn cvl_post_prepared_block(caller: *mut Caller, numbers: *const u64, count: usize) -> Status;
+    pub fn cvl_begin(caller: *mut Caller, line: *const u8, length: usize, answer: *mut Answer) -> Status;
+    pub fn cvl_begin_prepared(caller: *mut Caller, number: u64, answer: *mut Answer) -> Status;
     pub fn cvl_serve(caller: *mut Caller, served: *mut Served) -> Status;
     pub fn cvl_poll(caller: *mut Caller, answer: *mut Answer) -> Status;
     pub fn cvl_step(caller: *mut Caller, answer: *mut Answer) -> Status;
