@@ -4,3 +4,4 @@ pub mod Lines
 pub mod Posts
 pub mod Begun
 pub mod Closings
+pub mod Families

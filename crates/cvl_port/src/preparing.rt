@@ -14,6 +14,7 @@ use cvl_text::{Call, ReadFault};
 use std::alloc::Global;
 
 /// A copy of the prepared call of a number.
+#[inline(always)]
 pub(crate) fn copied(alloc: Global, prepared: &[Call], number: u64) -> Result<Call, PostFault>
     ensures found { IfOk result (λ call. prepared_task prepared.now number ≡ Some (task_of call)) }
     ensures not_found { IfErr result (IsNotCopied (prepared_task prepared.now number)) }
