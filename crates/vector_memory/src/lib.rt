@@ -11,6 +11,7 @@ mod memory;
 mod name;
 mod name_text;
 mod notes;
+mod short_name;
 mod value;
 
 pub use bounds::Bounds;
@@ -20,4 +21,5 @@ pub use memory::{CHANGE_LIMIT, Memory, NAME_LIMIT, ROOM_LIMIT, StoreFault, is_la
 pub use name::Name;
 pub use name_text::NameText;
 pub use segment_desc::OutOfMemory;
+pub use short_name::ShortName;
 pub use value::Value;
