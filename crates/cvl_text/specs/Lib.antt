@@ -1,5 +1,6 @@
 pub mod Answers
 pub mod Tasks
+pub mod Named
 pub mod Names
 pub mod Words
 pub mod Numbers

@@ -26,6 +26,7 @@ mod writing;
 
 pub use call::{Call, SegmentedIndex};
 pub use fault::{Fault, ReadFault};
+pub use named::{call_of_ask, call_of_one, call_of_two};
 pub use names::NamesRead;
 pub use parts::{call_word, names_read, reads, target};
 pub use reply::Reply;

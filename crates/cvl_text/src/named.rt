@@ -3,6 +3,7 @@
 ghost use Rattle.std.specs.Prelude.{◌≡◌, [], ◌∷◌, Some};
 ghost use Rattle.cvl_text.specs.declared.word.Word.TheVariants.{Ask, One, Two, Three, BckSeg};
 ghost use Rattle.cvl_text.specs.Lines.{Reads};
+ghost use Rattle.cvl_text.specs.Named.{ask_call, one_call, two_call};
 ghost use Rattle.cvl_text.specs.Tasks.{asking, into, task_of, vectors};
 
 use crate::call::{Call, SegmentedIndex};
@@ -11,8 +12,10 @@ use crate::word::{AskWord, Kind, OneWord, ThreeWord, TwoWord};
 use std::alloc::Global;
 use vector_memory::Name;
 
-pub(crate) fn call_of_ask(word: AskWord, a: Name) -> Call
-    ensures { task_of result ≡ asking (Ask word) (vectors (a ∷ [])) }
+/// The call of a word that stands first, and its name.
+pub fn call_of_ask(word: AskWord, a: Name) -> Call
+    ensures call { result ≡ ask_call word a }
+    ensures task { task_of result ≡ asking (Ask word) (vectors (a ∷ [])) }
 {
     match word {
         AskWord::Get => Call::Get { a },
@@ -23,8 +26,10 @@ pub(crate) fn call_of_ask(word: AskWord, a: Name) -> Call
     }
 }
 
-pub(crate) fn call_of_one(to: Name, word: OneWord, a: Name) -> Call
-    ensures { task_of result ≡ into to (One word) (vectors (a ∷ [])) }
+/// The call of a word behind `=` with one name behind it.
+pub fn call_of_one(to: Name, word: OneWord, a: Name) -> Call
+    ensures call { result ≡ one_call word to a }
+    ensures task { task_of result ≡ into to (One word) (vectors (a ∷ [])) }
 {
     match word {
         OneWord::Mov => Call::Mov { to, a },
@@ -39,8 +44,10 @@ pub(crate) fn call_of_one(to: Name, word: OneWord, a: Name) -> Call
     }
 }
 
-pub(crate) fn call_of_two(to: Name, word: TwoWord, a: Name, b: Name) -> Call
-    ensures { task_of result ≡ into to (Two word) (vectors (a ∷ b ∷ [])) }
+/// The call of a word behind `=` with two names behind it.
+pub fn call_of_two(to: Name, word: TwoWord, a: Name, b: Name) -> Call
+    ensures call { result ≡ two_call word to a b }
+    ensures task { task_of result ≡ into to (Two word) (vectors (a ∷ b ∷ [])) }
 {
     let s = Some(b);
     match word {

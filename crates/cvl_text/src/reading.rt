@@ -1,7 +1,5 @@
 //! Calls from the words of their lines.
 
-ghost use Rattle.std.specs.Prelude.{◌≡◌};
-ghost use Rattle.std.specs.Option.{option_map};
 ghost use Rattle.cvl_text.specs.Words.{words_of};
 ghost use Rattle.cvl_text.specs.Tasks.{task_of};
 ghost use Rattle.cvl_text.specs.Lines.{Reads, behind_target, targeted, task_in, untargeted, without_target};
@@ -38,15 +36,15 @@ fn targeted(
             let items = items(alloc, text)?;
             Ok(Call::SetBools { to, items })
         }
-        Word::One(word) => fixed::one(to, word, text, edition).ok_or(ReadFault::BadCall),
-        Word::Two(word) => fixed::two(to, word, text, edition).ok_or(ReadFault::BadCall),
+        Word::One(word) => fixed::one(to, word, text, edition),
+        Word::Two(word) => fixed::two(to, word, text, edition),
         Word::Three(word) => fixed::three(alloc, to, word, text, edition),
         Word::BckSeg(kind) => fixed::four(alloc, to, kind, text, edition),
-        Word::Alo => fixed::alo(to, text, edition).ok_or(ReadFault::BadCall),
-        Word::DisZ => fixed::dis_z(to, text, edition).ok_or(ReadFault::BadCall),
-        Word::DisB => fixed::dis_b(to, text, edition).ok_or(ReadFault::BadCall),
-        Word::Ind => fixed::ind(to, text, edition).ok_or(ReadFault::BadCall),
-        Word::Rep => fixed::rep(to, text, edition).ok_or(ReadFault::BadCall),
+        Word::Alo => fixed::alo(to, text, edition),
+        Word::DisZ => fixed::dis_z(to, text, edition),
+        Word::DisB => fixed::dis_b(to, text, edition),
+        Word::Ind => fixed::ind(to, text, edition),
+        Word::Rep => fixed::rep(to, text, edition),
         Word::Ask(_) => Err(ReadFault::BadCall),
         Word::Ext => Err(ReadFault::BadCall),
     }
@@ -54,26 +52,29 @@ fn targeted(
 
 /// The call of a word that stands first.
 #[tactic(auto, unfolding(crate::specs::Lines::untargeted))]
-fn untargeted(word: Word, text: &[u8], edition: Edition) -> Option<Call>
-    ensures { option_map task_of result ≡ untargeted edition word (words_of text.now) }
+fn untargeted(word: Word, text: &[u8], edition: Edition) -> Result<Call, ReadFault>
+    ensures { Reads task_of result (untargeted edition word (words_of text.now)) }
 {
     match word {
-        Word::Ask(word) => Some(call_of_ask(word, one_name(text, edition)?)),
-        Word::Ext => {
-            let (a, p) = name_and_number(text, edition)?;
-            Some(Call::Ext { a, p })
-        }
-        Word::SetInts => None,
-        Word::SetBools => None,
-        Word::One(_) => None,
-        Word::Two(_) => None,
-        Word::Three(_) => None,
-        Word::BckSeg(_) => None,
-        Word::Alo => None,
-        Word::DisZ => None,
-        Word::DisB => None,
-        Word::Ind => None,
-        Word::Rep => None,
+        Word::Ask(word) => match one_name(text, edition) {
+            Some(a) => Ok(call_of_ask(word, a)),
+            None => Err(ReadFault::BadCall),
+        },
+        Word::Ext => match name_and_number(text, edition) {
+            Some((a, p)) => Ok(Call::Ext { a, p }),
+            None => Err(ReadFault::BadCall),
+        },
+        Word::SetInts => Err(ReadFault::BadCall),
+        Word::SetBools => Err(ReadFault::BadCall),
+        Word::One(_) => Err(ReadFault::BadCall),
+        Word::Two(_) => Err(ReadFault::BadCall),
+        Word::Three(_) => Err(ReadFault::BadCall),
+        Word::BckSeg(_) => Err(ReadFault::BadCall),
+        Word::Alo => Err(ReadFault::BadCall),
+        Word::DisZ => Err(ReadFault::BadCall),
+        Word::DisB => Err(ReadFault::BadCall),
+        Word::Ind => Err(ReadFault::BadCall),
+        Word::Rep => Err(ReadFault::BadCall),
     }
 }
 
@@ -96,10 +97,13 @@ fn behind_target(alloc: Global, edition: Edition, to: &[u8], text: &[u8]) -> Res
 
 /// The call of words that begin with the call word.
 #[tactic(auto, unfolding(crate::specs::Lines::without_target))]
-fn without_target(word: &[u8], rest: &[u8], edition: Edition) -> Option<Call>
-    ensures { option_map task_of result ≡ without_target edition word.now (words_of rest.now) }
+fn without_target(word: &[u8], rest: &[u8], edition: Edition) -> Result<Call, ReadFault>
+    ensures { Reads task_of result (without_target edition word.now (words_of rest.now)) }
 {
-    untargeted(word_of(word)?, rest, edition)
+    let Some(word) = word_of(word) else {
+        return Err(ReadFault::BadCall);
+    };
+    untargeted(word, rest, edition)
 }
 
 impl Call {
@@ -124,10 +128,10 @@ impl Call {
                 if second == b"=".as_slice() {
                     behind_target(alloc, edition, first, behind)
                 } else {
-                    without_target(first, rest, edition).ok_or(ReadFault::BadCall)
+                    without_target(first, rest, edition)
                 }
             }
-            None => without_target(first, rest, edition).ok_or(ReadFault::BadCall),
+            None => without_target(first, rest, edition),
         }
     }
 }
