@@ -8,3 +8,4 @@ pub mod BlockRuns
 pub mod Replays
 pub mod Serving
 pub mod InPlace
+pub mod Logged

@@ -1,6 +1,6 @@
 -- A replay begins no block and ends none (`replay_from-outside`, `replay-outside`), so that the memory of a book may always change
 -- (`book_may_change`).
-use Rattle.std.proofs.Common.{◌≡◌, ℕ, List, [], ◌∷◌, None, refl, ap, ◌∙◌}
+use Rattle.std.proofs.Common.{◌≡◌, List, [], ◌∷◌, None, refl, ap, ◌∙◌}
 use Rattle.vector_memory.specs.declared.bounds.Bounds.{Bounds}
 use Rattle.vector_memory.specs.States.{State, MayChange, bounds_of, empty}
 use Rattle.cvl_text.specs.Tasks.{task_of}

@@ -1,5 +1,5 @@
 -- A replay goes call by call, and keeps the bounds.
-use Rattle.std.proofs.Common.{◌≡◌, ℕ, suc, length, slice_get, List, [], ◌∷◌, ◌++◌, Option, Some, None, refl, sym, ap, ◌∙◌}
+use Rattle.std.proofs.Common.{◌≡◌, suc, length, slice_get, List, [], ◌∷◌, ◌++◌, Option, Some, None, refl, sym, ap, ◌∙◌}
 use Rattle.vector_memory.specs.declared.name.Name.{Name}
 use Rattle.vector_memory.specs.Contents.{Content}
 use Rattle.vector_memory.specs.States.{State, bounds_of, empty, put, without}

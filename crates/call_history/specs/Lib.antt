@@ -7,3 +7,6 @@ pub mod Books
 pub mod Insides
 pub mod Shown
 pub mod Works
+pub mod Kept
+pub mod Logs
+pub mod Refs

@@ -6,7 +6,7 @@ ghost use Rattle.vector_memory.specs.States.{IsLawfulRoom, bounds_in};
 ghost use Rattle.call_history.specs.History.{replay};
 ghost use Rattle.call_history.specs.Shown.{shown};
 
-use crate::entry::Entry;
+use crate::log::Log;
 use cvl_calls::{Spare, step_with};
 use scan_kernels::{Execution, Meter};
 use std::alloc::Global;
@@ -19,15 +19,16 @@ pub(crate) fn replayed(
     alloc: Global,
     room: u64,
     edition: Edition,
-    entries: &[Entry],
+    log: &Log,
 ) -> Result<Memory, OutOfMemory>
     requires { IsLawfulRoom room }
-    ensures { IfOk result (λ memory. memory ≡ replay (bounds_in edition room) entries.now) }
+    ensures { IfOk result (λ memory. memory ≡ replay (bounds_in edition room) log.now.entries) }
 {
     let mut memory = Memory::with_edition(alloc, room, edition)?;
     let mut meter = Meter::new();
     let mut spare = Spare::new(alloc);
-    for entry in entries {
+    for place in 0..log.len() {
+        let entry = log.entry(place);
         step_with(
             execution,
             alloc,

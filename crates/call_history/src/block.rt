@@ -8,7 +8,7 @@ ghost use Rattle.call_history.specs.Blocks.{RisesBy, after, block_entries, block
 ghost use Rattle.call_history.specs.Callers.{AreTickets, HasLawfulCallers, IsTicketed};
 
 use crate::book::{CALLER_LIMIT, enter};
-use crate::entry::Entry;
+use crate::log::Log;
 use cvl_calls::{Spare, step_with};
 use cvl_text::{Call, Reply};
 use scan_kernels::{Execution, Meter};
@@ -45,29 +45,29 @@ pub(crate) fn run_each(
 
 /// Writes the calls of a block behind the entries, with the caller's next tickets, and answers the place of the first.
 pub(crate) fn enter_each(
-    entries: &mut Vec<Entry>,
+    log: &mut Log,
     tickets: &mut Box<[u64; CALLER_LIMIT]>,
     caller: u64,
     calls: Vec<Call>,
 ) -> u64
     requires caller { caller < CALLER_LIMIT }
     requires few { length calls.items ≤ block_limit }
-    requires space { vec_len entries.old + length calls.items ≤ vec_capacity entries.old }
-    requires counted { AreTickets tickets.old.value entries.old.items }
-    requires ticketed { IsTicketed entries.old.items }
-    requires lawful_callers { HasLawfulCallers entries.old.items }
-    ensures place { result ≡ length entries.old.items }
-    ensures items { entries.new.items ≡ entries.old.items ++ block_entries entries.old.items caller calls.items }
-    ensures capacity { vec_capacity entries.new ≡ vec_capacity entries.old }
-    ensures counted { AreTickets tickets.new.value entries.new.items }
-    ensures ticketed { IsTicketed entries.new.items }
-    ensures lawful_callers { HasLawfulCallers entries.new.items }
+    requires space { length calls.items ≤ log.old.spaces }
+    requires counted { AreTickets tickets.old.value log.old.entries }
+    requires ticketed { IsTicketed log.old.entries }
+    requires lawful_callers { HasLawfulCallers log.old.entries }
+    ensures place { result ≡ length log.old.entries }
+    ensures entries { log.new.entries ≡ log.old.entries ++ block_entries log.old.entries caller calls.items }
+    ensures spaces { log.old.spaces ≤ log.new.spaces + length calls.items }
+    ensures counted { AreTickets tickets.new.value log.new.entries }
+    ensures ticketed { IsTicketed log.new.entries }
+    ensures lawful_callers { HasLawfulCallers log.new.entries }
 {
-    let place = entries.len() as u64;
+    let place = log.len() as u64;
     let mut rest = calls.len() as u64;
     for call in calls {
         rest -= 1;
-        enter(entries, tickets, caller, call, rest);
+        enter(log, tickets, caller, call, rest);
     }
     place
 }

@@ -1,4 +1,4 @@
-ghost use Rattle.std.specs.Prelude.{◌≡◌, ◌==◌, ◌+◌, ◌<◌, ◌≤◌, ◌∷◌, ◌++◌, [], length, map, slice_get, Some, IfOk, IfErr, OnOk, OnErr, IsOk, IsTrue, vec_len, vec_capacity};
+ghost use Rattle.std.specs.Prelude.{◌≡◌, ◌==◌, ◌+◌, ◌<◌, ◌≤◌, ◌∷◌, ◌++◌, [], length, map, slice_get, Some, IfOk, IfErr, OnOk, OnErr, IsOk, IsTrue};
 ghost use Rattle.vector_memory.specs.States.{IsLawfulRoom, MayChange, bounds_in};
 ghost use Rattle.vector_memory.specs.Editions.{item_limit};
 ghost use Rattle.cvl_text.specs.Tasks.{task_of};
@@ -9,11 +9,13 @@ ghost use Rattle.call_history.specs.History.{replies_from, reply_after};
 ghost use Rattle.call_history.specs.Books.{memory_of};
 ghost use Rattle.call_history.specs.Blocks.{RisesBy, Whole, block_entries, block_limit, metered};
 ghost use Rattle.call_history.specs.Callers.{AreTickets, IsTicketed, HasLawfulCallers, next_before, next_entry};
+ghost use Rattle.call_history.specs.Refs.{entry_of};
 ghost use Rattle.call_history.specs.Works.{IsWork};
 
 use crate::audit::{holds_the_same, replayed};
 use crate::block::{enter_each, run_each};
-use crate::entry::Entry;
+use crate::entry::EntryRef;
+use crate::log::Log;
 use crate::work::Work;
 use cvl_calls::{Product, Spare, apply_with, step_with, target};
 use cvl_text::{Call, Reply};
@@ -33,7 +35,7 @@ pub const BLOCK_LIMIT: usize = 1024;
 #[derive(Drop)]
 pub struct Book {
     memory: Memory,
-    entries: Vec<Entry>,
+    log: Log,
     /// The next ticket of each caller. It lies apart, so that a book is moved by few bytes.
     tickets: Box<[u64; CALLER_LIMIT]>,
     /// Vectors that were replaced, for the next results.
@@ -54,7 +56,7 @@ impl Model for Book {
 
 /// Writes a call behind the entries, with the caller's next ticket and so many more of its block to follow, and answers its place.
 pub(crate) fn enter(
-    entries: &mut Vec<Entry>,
+    log: &mut Log,
     tickets: &mut Box<[u64; CALLER_LIMIT]>,
     caller: u64,
     call: Call,
@@ -62,25 +64,20 @@ pub(crate) fn enter(
 ) -> u64
     requires caller { caller < CALLER_LIMIT }
     requires rest { rest < block_limit }
-    requires space { vec_len entries.old < vec_capacity entries.old }
-    requires counted { AreTickets tickets.old.value entries.old.items }
-    requires ticketed { IsTicketed entries.old.items }
-    requires lawful_callers { HasLawfulCallers entries.old.items }
-    ensures place { result ≡ length entries.old.items }
-    ensures items { entries.new.items ≡ entries.old.items ++ next_before entries.old.items caller call rest ∷ [] }
-    ensures capacity { vec_capacity entries.new ≡ vec_capacity entries.old }
-    ensures counted { AreTickets tickets.new.value entries.new.items }
-    ensures ticketed { IsTicketed entries.new.items }
-    ensures lawful_callers { HasLawfulCallers entries.new.items }
+    requires space { 0 < log.old.spaces }
+    requires counted { AreTickets tickets.old.value log.old.entries }
+    requires ticketed { IsTicketed log.old.entries }
+    requires lawful_callers { HasLawfulCallers log.old.entries }
+    ensures place { result ≡ length log.old.entries }
+    ensures entries { log.new.entries ≡ log.old.entries ++ next_before log.old.entries caller call rest ∷ [] }
+    ensures one_space { log.old.spaces ≤ log.new.spaces + 1 }
+    ensures counted { AreTickets tickets.new.value log.new.entries }
+    ensures ticketed { IsTicketed log.new.entries }
+    ensures lawful_callers { HasLawfulCallers log.new.entries }
 {
-    let place = entries.len() as u64;
+    let place = log.len() as u64;
     let ticket = tickets[caller as usize];
-    entries.push_reserved(Entry {
-        caller: caller as u8,
-        ticket,
-        call,
-        rest: rest as u16,
-    });
+    log.push(caller as u8, rest as u16, ticket, call);
     tickets[caller as usize] = ticket + 1;
     place
 }
@@ -123,7 +120,7 @@ impl Book {
     {
         Ok(Book {
             memory: Memory::with_edition(alloc, room, edition)?,
-            entries: Vec::new(alloc),
+            log: Log::new(alloc),
             tickets: Box::new(alloc, [0; CALLER_LIMIT])?,
             spare: Spare::new(alloc),
         })
@@ -190,7 +187,7 @@ impl Book {
             OnErr result (MayLackMemory (memory_of self.old) (task_of call)) }
         ensures answered { 0 < self.old.spaces → TakesNoMemory (task_of call).word → IsOk result }
     {
-        let Ok(()) = self.entries.reserve(1) else {
+        let Ok(()) = self.log.reserve(1) else {
             return Err((call, OutOfMemory));
         };
         let Ok(reply) = step_with(
@@ -203,7 +200,7 @@ impl Book {
         ) else {
             return Err((call, OutOfMemory));
         };
-        let place = enter(&mut self.entries, &mut self.tickets, caller, call, 0);
+        let place = enter(&mut self.log, &mut self.tickets, caller, call, 0);
         Ok((place, reply))
     }
 
@@ -229,13 +226,13 @@ impl Book {
 
         ensures bounds { self.new.bounds ≡ self.old.bounds }
     {
-        let Ok(()) = self.entries.reserve(1) else {
+        let Ok(()) = self.log.reserve(1) else {
             return Err((call, OutOfMemory));
         };
         let Ok(reply) = done(&mut self.spare, &mut self.memory, &call, work) else {
             return Err((call, OutOfMemory));
         };
-        let place = enter(&mut self.entries, &mut self.tickets, caller, call, 0);
+        let place = enter(&mut self.log, &mut self.tickets, caller, call, 0);
         Ok((place, reply))
     }
 
@@ -270,7 +267,7 @@ impl Book {
         let Ok(mut replies) = Vec::with_capacity(alloc, calls.len()) else {
             return Err((calls, OutOfMemory));
         };
-        let Ok(()) = self.entries.reserve(calls.len()) else {
+        let Ok(()) = self.log.reserve(calls.len()) else {
             return Err((calls, OutOfMemory));
         };
         let Ok(()) = self.memory.begin_block(calls.len()) else {
@@ -289,7 +286,7 @@ impl Book {
             return Err((calls, OutOfMemory));
         };
         self.memory.end_block();
-        let place = enter_each(&mut self.entries, &mut self.tickets, caller, calls);
+        let place = enter_each(&mut self.log, &mut self.tickets, caller, calls);
         Ok((place, replies))
     }
 
@@ -301,7 +298,7 @@ impl Book {
         ensures history { self.new.history ≡ self.old.history }
         ensures bounds { self.new.bounds ≡ self.old.bounds }
     {
-        self.entries.reserve(additional)?;
+        self.log.reserve(additional)?;
         Ok(())
     }
 
@@ -312,22 +309,22 @@ impl Book {
         ensures callers { HasLawfulCallers self.now.history }
         ensures whole { Whole self.now.history }
     {
-        self.entries.len()
+        self.log.len()
     }
 
     /// Whether no call has run.
     pub fn is_empty(&self) -> bool
         ensures { result ≡ (length self.now.history == 0) }
     {
-        self.entries.is_empty()
+        self.log.len() == 0
     }
 
     /// The entry at place `i`, counted from 0.
-    pub fn entry(&self, i: usize) -> &Entry
+    pub fn entry(&self, i: usize) -> EntryRef<'_>
         requires { i < length self.now.history }
-        ensures { slice_get self.now.history i ≡ Some result.now }
+        ensures { slice_get self.now.history i ≡ Some (entry_of result) }
     {
-        &self.entries[i]
+        self.log.entry(i)
     }
 
     /// What the calls of the history made of an empty memory, one by one.
@@ -345,7 +342,7 @@ impl Book {
         memories_are_lawful(&self.memory);
         let room = self.memory.room();
         let edition = self.memory.edition();
-        let anew = replayed(execution, alloc, room, edition, &self.entries)?;
+        let anew = replayed(execution, alloc, room, edition, &self.log)?;
         Ok(holds_the_same(&anew, &self.memory))
     }
 

@@ -8,11 +8,13 @@ mod audit;
 mod block;
 mod book;
 mod entry;
+mod kept;
 pub mod laws;
+mod log;
 mod request;
 mod work;
 
 pub use book::{BLOCK_LIMIT, Book, CALLER_LIMIT};
-pub use entry::Entry;
+pub use entry::{CallRef, Entry, EntryRef};
 pub use request::{Job, Outcome, Request};
 pub use work::Work;

@@ -3,7 +3,7 @@
 ghost use Rattle.std.specs.Prelude.{◌≡◌, All};
 
 use crate::asking::read;
-use call_history::{Book, Entry};
+use call_history::Book;
 use combiner::{Caller, Polled, Shared};
 use cvl_text::{Call, Reply};
 use scan_kernels::Sequential;
@@ -112,17 +112,17 @@ fn work_at_once<R: Abort + Threads + Sync>(
     close_all(rt, alloc, machine, done.ok().expect(rt, "memory"))
 }
 
-/// The number that stands under `n` after an entry, if one stood there before.
-fn number_after(entry: &Entry, before: Option<i64>) -> Option<i64> {
-    match &entry.call {
+/// The number that stands under `n` after a call, if one stood there before.
+fn number_after(call: &Call, before: Option<i64>) -> Option<i64> {
+    match call {
         Call::SetInts { items, .. } => items.first().copied(),
         _ => before,
     }
 }
 
-/// What the caller of an entry is to be told, where this number stands under `n` before it.
-fn news_of(entry: &Entry, place: usize, before: Option<i64>) -> Told {
-    let number = match &entry.call {
+/// What the caller of a call at a place is to be told, where this number stands under `n` before it.
+fn news_of(call: &Call, place: usize, before: Option<i64>) -> Told {
+    let number = match call {
         Call::SetInts { .. } => None,
         _ => before,
     };
@@ -139,12 +139,12 @@ fn is_as_told(book: &Book, caller: usize, told: &[Told]) -> bool {
     for place in 0..book.len() {
         let entry = book.entry(place);
         if entry.caller as usize == caller {
-            if heard < told.len() && told[heard] != news_of(entry, place, number) {
+            if heard < told.len() && told[heard] != news_of(&entry.call, place, number) {
                 return false;
             }
             heard += 1;
         }
-        number = number_after(entry, number);
+        number = number_after(&entry.call, number);
     }
     heard == told.len() || heard == told.len() + 1
 }

@@ -2,6 +2,8 @@
 use Rattle.std.specs.Prelude.{◌≡◌, ◌<◌, ◌≤◌, ℕ, Bool, true, false, List, length, map, Option, Some, None, Result, Ok, Err, IsSome, IsTrue}
 use Rattle.std.specs.Borrow.{Bor}
 use Rattle.cvl_text.specs.declared.call.Call.{Call}
+use Rattle.cvl_text.specs.declared.fault.ReadFault.{ReadFault}
+use Rattle.cvl_text.specs.declared.fault.ReadFault.TheVariants as reads
 use Rattle.cvl_text.specs.Tasks.{Task, task_of}
 use Rattle.cvl_text.specs.Lines.{task_in}
 use Rattle.cvl_text.specs.Words.{words_of}
@@ -27,6 +29,11 @@ abbrev pub IsCallOf : Result Call LineFault → Option Task → Type 0
 IsCallOf (Ok call) task = task ≡ Some (task_of call)
 IsCallOf (Err faults.Bad) task = task ≡ None
 IsCallOf (Err faults.OutOfMemory) task = IsSome task
+
+-- why a line is not served whose call is not read
+abbrev pub fault_of : ReadFault → LineFault
+fault_of reads.BadCall = faults.Bad
+fault_of reads.OutOfMemory = faults.OutOfMemory
 
 -- nothing is done at such a line but what it changes of the stage
 abbrev pub is_quiet : Line → Bool

@@ -3,7 +3,7 @@
 ghost use Rattle.std.specs.Prelude.{◌≡◌, ◌++◌, ◌<◌, length, IfOk, IfSome, OnOk, OnErr, IsErrOf};
 ghost use Rattle.cvl_text.specs.Lines.{task_in};
 ghost use Rattle.cvl_text.specs.Words.{words_of};
-ghost use Rattle.script_lines.specs.Asks.{IsAsk, IsCallOf};
+ghost use Rattle.script_lines.specs.Asks.{IsAsk, IsCallOf, fault_of};
 ghost use Rattle.script_lines.specs.Scripts.{line_limit, caller_named, is_alone, is_comment};
 
 use call_history::CALLER_LIMIT;
@@ -92,13 +92,22 @@ pub(crate) fn ask_in(line: &[u8]) -> Result<Option<(u8, &[u8])>, LineFault>
     }
 }
 
+/// Why a line was not served whose call was not read.
+pub(crate) fn fault_of(fault: ReadFault) -> LineFault
+    ensures { result ≡ fault_of fault }
+{
+    match fault {
+        ReadFault::BadCall => LineFault::Bad,
+        ReadFault::OutOfMemory => LineFault::OutOfMemory,
+    }
+}
+
 /// The call that a text asks for in an edition.
 pub(crate) fn read_call(alloc: Global, edition: Edition, text: &[u8]) -> Result<Call, LineFault>
     ensures { IsCallOf result (task_in edition (words_of text.now)) }
 {
     match Call::read_in(alloc, text, edition) {
         Ok(call) => Ok(call),
-        Err(ReadFault::BadCall) => Err(LineFault::Bad),
-        Err(ReadFault::OutOfMemory) => Err(LineFault::OutOfMemory),
+        Err(fault) => Err(fault_of(fault)),
     }
 }

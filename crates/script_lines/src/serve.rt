@@ -15,7 +15,7 @@ ghost use Rattle.script_lines.specs.Scripts.{Bad, asked, line_of, is_good, stage
 ghost use Rattle.script_lines.specs.Stages.{stage_of};
 
 use crate::deed::Deed;
-use crate::line::{LineFault, read_call};
+use crate::line::{LineFault, fault_of};
 use crate::progress::Progress;
 use crate::step::step;
 use call_history::{Book, CALLER_LIMIT};
@@ -118,8 +118,10 @@ fn serve_text(
     ensures bad { IsErrOf result LineFault.Bad → asked caller (task_in edition (words_of said.now)) ≡ Bad }
     ensures err { OnErr result (out.new.items ≡ out.old.items) }
 {
-    let call = read_call(alloc, edition, said)?;
-    serve_call(execution, alloc, book, out, caller, call)
+    match Call::read_in(alloc, said, edition) {
+        Ok(call) => serve_call(execution, alloc, book, out, caller, call),
+        Err(fault) => Err(fault_of(fault)),
+    }
 }
 
 /// Runs a block, and writes its replies behind what is there. On an error nothing is written.

@@ -6,16 +6,14 @@ use Rattle.call_history.proofs.book.enter.Goals as goal
 
 pub overflow_add-ticket : goal.overflow_add-ticket
 overflow_add-ticket c =
-    let few = calls_by-le c.args.caller c.args.entries.now.items in
+    let few = calls_by-le c.args.caller c.args.log.now.entries in
     let known = ap (λ t. slice_index t c.args.caller) c.deref.ensures ∙ c.requires.counted c.args.caller c.requires.caller in
-    let held = c.args.entries.now.ok in
-    let small = c.args.entries.now.small in
-    omega arith
+    omega (arith, c.len-place.ensures)
 
 pub returns-clause-ticketed : goal.returns-clause-ticketed
 returns-clause-ticketed c =
-    let history = c.args.entries.now.items in
+    let history = c.args.log.now.entries in
     let added = entry_before c.args.caller (length (calls_by c.args.caller history)) c.args.call c.args.rest in
     let known = ap (λ t. slice_index t c.args.caller) c.deref.ensures ∙ c.requires.counted c.args.caller c.requires.caller in
-    let items : c.push_reserved.new.self.items ≡ history ++ added ∷ [] = c.push_reserved.ensures.items ∙ ap (λ n. history ++ entry_before c.args.caller n c.args.call c.args.rest ∷ []) known in
+    let items : c.push.new.self.entries ≡ history ++ added ∷ [] = c.push.ensures.entries ∙ ap (λ n. history ++ entry_before c.args.caller n c.args.call c.args.rest ∷ []) known in
     subst IsTicketed (sym items) (ticketed-push history added c.requires.ticketed refl)

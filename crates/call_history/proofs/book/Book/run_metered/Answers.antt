@@ -14,13 +14,13 @@ use Rattle.call_history.proofs.Replays.{replay-push}
 use Rattle.call_history.proofs.book.Book.run_metered.Goals as goal
 
 pub step_with-requires-clause-may_change : goal.step_with-requires-clause-may_change
-step_with-requires-clause-may_change g c κs within = book_may_change c.self.inside.memory c.self.inside.entries.items c.self.invariant.replayed
+step_with-requires-clause-may_change g c κs within = book_may_change c.self.inside.memory c.self.inside.log.entries c.self.invariant.replayed
 
 pub invariant_of-self-2 : goal.invariant_of-self-2
 invariant_of-self-2 g c =
-    let history = c.self.inside.entries.items in
+    let history = c.self.inside.log.entries in
     let added = next_entry history c.args.caller c.args.call in
-    let items : c.enter-place.new.entries.items ≡ history ++ added ∷ [] = c.enter-place.ensures.items ∙ ap (λ es. es ++ next_entry es c.args.caller c.args.call ∷ []) c.reserve.ensures.items in
+    let items : c.enter-place.new.log.entries ≡ history ++ added ∷ [] = c.enter-place.ensures.entries ∙ ap (λ es. es ++ next_entry es c.args.caller c.args.call ∷ []) c.reserve.ensures.entries in
     record {
       replayed = replay-push c.self.inside.memory c.step_with.new.memory history added c.self.invariant.replayed (ap (λ s. s.memory) c.in-Ok-step_with.ensures.ok)
           ∙ ap (λ es. replay (bounds_of c.step_with.new.memory) es) (sym items);

@@ -13,13 +13,13 @@ use Rattle.call_history.proofs.Replays.{replay-push}
 use Rattle.call_history.proofs.book.Book.run_with.Goals as goal
 
 pub done-requires-clause-may_change : goal.done-requires-clause-may_change
-done-requires-clause-may_change c = book_may_change c.self.inside.memory c.self.inside.entries.items c.self.invariant.replayed
+done-requires-clause-may_change c = book_may_change c.self.inside.memory c.self.inside.log.entries c.self.invariant.replayed
 
 pub invariant_of-self-2 : goal.invariant_of-self-2
 invariant_of-self-2 c =
-    let history = c.self.inside.entries.items in
+    let history = c.self.inside.log.entries in
     let added = next_entry history c.args.caller c.args.call in
-    let items : c.enter-place.new.entries.items ≡ history ++ added ∷ [] = c.enter-place.ensures.items ∙ ap (λ es. es ++ next_entry es c.args.caller c.args.call ∷ []) c.reserve.ensures.items in
+    let items : c.enter-place.new.log.entries ≡ history ++ added ∷ [] = c.enter-place.ensures.entries ∙ ap (λ es. es ++ next_entry es c.args.caller c.args.call ∷ []) c.reserve.ensures.entries in
     record {
       replayed = replay-push c.self.inside.memory c.done.new.memory history added c.self.invariant.replayed (ap (λ s. s.memory) c.in-Ok-done.ensures.ok)
           ∙ ap (λ es. replay (bounds_of c.done.new.memory) es) (sym items);

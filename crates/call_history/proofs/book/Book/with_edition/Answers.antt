@@ -18,9 +18,9 @@ replayed-new m bounds history fresh none = fresh ∙ (ap (λ s. empty (bounds_of
 
 pub invariant_of-result : goal.invariant_of-result
 invariant_of-result c =
-    let none : [] ≡ c.new.result.items = sym c.new.ensures.items in
+    let none : [] ≡ c.new.result.entries = sym c.new.ensures in
     record {
-      replayed = replayed-new c.in_ok-with_edition.field-0 (bounds_in c.args.edition c.args.room) c.new.result.items c.in_ok-with_edition.ensures c.new.ensures.items;
+      replayed = replayed-new c.in_ok-with_edition.field-0 (bounds_in c.args.edition c.args.room) c.new.result.entries c.in_ok-with_edition.ensures c.new.ensures;
       ticketed = subst IsTicketed none (λ k. refl);
       lawful_callers = subst HasLawfulCallers none tt;
       whole = subst Whole none tt;
