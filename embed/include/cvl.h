@@ -172,6 +172,10 @@ int32_t cvl_reply(cvl_caller *caller, uint64_t number, cvl_answer *answer);
 uint64_t cvl_ints(cvl_caller *caller, uint64_t number, int64_t *items, size_t count);
 uint64_t cvl_bools(cvl_caller *caller, uint64_t number, bool *items, size_t count);
 uint64_t cvl_lengths(cvl_caller *caller, uint64_t number, size_t *lengths, size_t count);
+/* Where the items of a vector lie, with no copy; how many there are, as above, and where that is 0 there may be nothing to read. They
+ * stay there and may be read until the caller's last replies are others (its next answer, or cvl_close), and are not to be written. */
+uint64_t cvl_ints_at(cvl_caller *caller, uint64_t number, const int64_t **items);
+uint64_t cvl_bools_at(cvl_caller *caller, uint64_t number, const bool **items);
 
 /* The text of a reply as the program writes it, as "z 1 2" or "fault 1", as much as fits; how long it is in all goes to `length`, 0 where
  * there is no such reply or the caller is shut. CVL_OK; CVL_NO_MEMORY, and nothing is written. */
@@ -215,6 +219,8 @@ static inline cvl_caller *cvl_or_shut(cvl_caller *caller)
 #define cvl_ints(caller, number, items, count) cvl_ints(cvl_or_shut(caller), number, items, count)
 #define cvl_bools(caller, number, items, count) cvl_bools(cvl_or_shut(caller), number, items, count)
 #define cvl_lengths(caller, number, lengths, count) cvl_lengths(cvl_or_shut(caller), number, lengths, count)
+#define cvl_ints_at(caller, number, items) cvl_ints_at(cvl_or_shut(caller), number, items)
+#define cvl_bools_at(caller, number, items) cvl_bools_at(cvl_or_shut(caller), number, items)
 #define cvl_text(caller, number, text, room, length) cvl_text(cvl_or_shut(caller), number, text, room, length)
 #define cvl_look(caller) cvl_look(cvl_or_shut(caller))
 #define cvl_close(caller, closed) cvl_close(cvl_or_shut(caller), closed)

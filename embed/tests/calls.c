@@ -43,7 +43,9 @@ static void shut_callers(cvl_caller *caller)
     uint64_t number = 5;
     char letter = 'x';
     int64_t items[2] = {1, 2};
+    const int64_t *lent = items;
     bool bools[2] = {true, false};
+    const bool *said = bools;
     size_t lengths[2] = {1, 2};
     CHECK(post(caller, "a = z 1") == CVL_SHUT);
     CHECK(cvl_post_block(caller, "a = z 1", 7) == CVL_SHUT);
@@ -64,6 +66,8 @@ static void shut_callers(cvl_caller *caller)
     CHECK(cvl_ints(caller, 0, items, 2) == 0 && items[1] == 2);
     CHECK(cvl_bools(caller, 0, bools, 2) == 0);
     CHECK(cvl_lengths(caller, 0, lengths, 2) == 0);
+    CHECK(cvl_ints_at(caller, 0, &lent) == 0 && !lent);
+    CHECK(cvl_bools_at(caller, 0, &said) == 0 && !said);
     CHECK(cvl_text(caller, 0, &letter, 1, &number) == CVL_OK && number == 0 && letter == 'x');
     CHECK(cvl_look(caller) == UINT64_MAX);
     CHECK(cvl_close(caller, &closed) == CVL_SHUT);
@@ -150,6 +154,8 @@ static void typed(cvl_caller *caller)
     int64_t ints[4] = {-1, INT64_MAX, INT64_MIN, 5}, read[4] = {0, 0, 0, 42};
     bool bools[3] = {true, false, true}, truths[3] = {false, false, false};
     int64_t lengths[3] = {1, 0, 2}, bad[1] = {-1};
+    const int64_t *lent = NULL;
+    const bool *said = bools;
     size_t sizes[3] = {0, 0, 0};
     char text[5] = {'.', '.', '.', '.', '.'};
     uint64_t length = 0;
@@ -166,11 +172,15 @@ static void typed(cvl_caller *caller)
     CHECK(cvl_text(caller, 0, text, 4, &length) == CVL_OK && length == 47 && memcmp(text, "z -1", 4) == 0 && text[4] == '.');
     CHECK(cvl_text(caller, 1, text, 4, &length) == CVL_OK && length == 0);
     CHECK(cvl_ints(caller, 1, read, 4) == 0);
+    CHECK(cvl_ints_at(caller, 0, &lent) == 4 && lent[0] == -1 && lent[1] == INT64_MAX && lent[2] == INT64_MIN && lent[3] == 5);
+    CHECK(cvl_bools_at(caller, 0, &said) == 0 && !said);
+    CHECK(cvl_ints_at(caller, 1, &lent) == 0 && !lent);
     CHECK(cvl_bools(caller, 0, truths, 3) == 0 && cvl_lengths(caller, 0, sizes, 3) == 0);
     wait_for(caller, cvl_post_bools(caller, "t", 1, bools, 3), CVL_ANSWERED);
     answer = wait_for(caller, cvl_post_get(caller, "t", 1), CVL_ANSWERED);
     CHECK(answer.kind == CVL_BOOLS && answer.count == 3 && cvl_bools(caller, 0, truths, 3) == 3);
     CHECK(truths[0] && !truths[1] && truths[2]);
+    CHECK(cvl_bools_at(caller, 0, &said) == 3 && said[0] && !said[1] && said[2]);
     answer = wait_for(caller, cvl_post_lengths(caller, "s", 1, lengths, 3), CVL_ANSWERED_BLOCK);
     CHECK(answer.replies == 2 && cvl_reply(caller, 1, &answer) == CVL_OK && answer.kind == CVL_DONE);
     answer = wait_for(caller, cvl_post_get(caller, "s", 1), CVL_ANSWERED);

@@ -99,15 +99,17 @@ static double least(double one, double other)
     return one < other ? one : other;
 }
 
-/* A million integers set and got, the least time of each, beside memcpy from one array to another. */
+/* A million integers set and got, the least time of each: "get" copies them into an array and "get at" reads them where they lie. Beside
+ * memcpy from one array to another, and into memory that is kept for good ("memcpy kept"), as the history keeps what is set. */
 static void arrays(void)
 {
     size_t bytes = MILLION * sizeof(int64_t);
-    int64_t *from = malloc(bytes), *to = malloc(bytes);
+    int64_t *from = malloc(bytes), *to = malloc(bytes), *all[ROUNDS];
+    const int64_t *there;
     cvl_caller caller = CVL_CALLER_INIT;
     cvl_answer answer;
     cvl_closed closed;
-    double copied = 1e300, set_in = 1e300, got = 1e300;
+    double copied = 1e300, kept = 1e300, set_in = 1e300, got = 1e300, lent = 1e300;
     if (!from || !to)
         exit(1);
     for (int i = 0; i < MILLION; i++)
@@ -119,6 +121,13 @@ static void arrays(void)
         copied = least(copied, seconds() - began);
         from[0] = to[MILLION - 1];
         began = seconds();
+        int64_t *fresh = malloc(bytes);
+        if (!fresh)
+            exit(1);
+        memcpy(fresh, from, bytes);
+        kept = least(kept, seconds() - began);
+        all[round] = fresh;
+        began = seconds();
         check(cvl_post_ints(&caller, "v", 1, from, MILLION));
         check(cvl_wait(&caller, &answer));
         set_in = least(set_in, seconds() - began);
@@ -128,10 +137,20 @@ static void arrays(void)
         if (cvl_ints(&caller, 0, to, MILLION) != MILLION || to[1] != 1)
             exit(1);
         got = least(got, seconds() - began);
+        began = seconds();
+        check(cvl_post_get(&caller, "v", 1));
+        check(cvl_wait(&caller, &answer));
+        if (cvl_ints_at(&caller, 0, &there) != MILLION || there[MILLION - 1] != MILLION - 1)
+            exit(1);
+        lent = least(lent, seconds() - began);
     }
     check(cvl_close(&caller, &closed));
-    printf("array\tmemcpy\tc\t%.2f\narray\tset\tc\t%.2f\narray\tget\tc\t%.2f\n", (double)bytes / copied / 1e9, (double)bytes / set_in / 1e9,
-           (double)bytes / got / 1e9);
+    const struct { const char *row; double time; } rows[] = {
+        {"memcpy", copied}, {"memcpy kept", kept}, {"set", set_in}, {"get", got}, {"get at", lent}};
+    for (size_t row = 0; row < sizeof rows / sizeof *rows; row++)
+        printf("array\t%s\tc\t%.2f\n", rows[row].row, (double)bytes / rows[row].time / 1e9);
+    for (int round = 0; round < ROUNDS; round++)
+        free(all[round]);
     free(from);
     free(to);
 }

@@ -5,7 +5,7 @@ ghost use Rattle.std.specs.Option.{option_copied};
 ghost use Rattle.cvl_port.specs.Replies.{replies_of};
 ghost use Rattle.cvl_c.specs.Answers.{Shows, shown, bools_of, ints_of, lengths_of, text_of, written_over};
 ghost use Rattle.cvl_c.specs.Callers.{AsksPort, port_in};
-ghost use Rattle.cvl_c.specs.Reading.{HasReply, ReadsItems, ReadsText};
+ghost use Rattle.cvl_c.specs.Reading.{BoolsLie, HasReply, IntsLie, ReadsItems, ReadsText, reply_at};
 
 use crate::answer::{Answer, shown};
 use crate::caller::Caller;
@@ -13,6 +13,7 @@ use crate::statuses::{NO_MEMORY, NO_REPLY, OK, SHUT};
 use core::mem::replace_with;
 use cvl_text::Reply;
 use std::alloc::Global;
+use std::ptr;
 use vector_memory::Value;
 
 /// As many items as both have. How many there are in all.
@@ -81,6 +82,42 @@ pub extern "C" fn cvl_ints(alloc: Global, caller: &mut Caller, number: u64, out:
     count
 }
 
+/// Where the integers of a reply lie, and how many there are.
+fn ints_lie(reply: Option<&Reply>) -> (*const i64, u64)
+    ensures { IntsLie (option_copied reply.entry) result.0 result.1 }
+{
+    match reply {
+        Some(Reply::Vector(Value::Ints(items))) => (items.as_ptr(), items.len() as u64),
+        _ => (ptr::null(), 0),
+    }
+}
+
+/// Where the integers of a reply lie, until the caller's last replies are others, and how many there are: nowhere and 0 where it is
+/// of another kind.
+#[unsafe(no_mangle)]
+pub extern "C" fn cvl_ints_at(
+    alloc: Global,
+    caller: &mut Caller,
+    number: u64,
+    at: &mut *const i64,
+) -> u64
+    ensures same { port_in caller.new ≡ port_in caller.old }
+    ensures lie { IntsLie (reply_at (port_in caller.old) number) at.new result }
+{
+    let port = match caller.take(alloc).into_port() {
+        Ok(port) => port,
+        Err(shut) => {
+            caller.give(shut);
+            *at = ptr::null();
+            return 0;
+        }
+    };
+    let (there, count) = ints_lie(port.last.reply(number as usize));
+    caller.give(Caller::of(port));
+    *at = there;
+    count
+}
+
 fn bools_of(reply: Option<&Reply>) -> &[bool]
     ensures { result.now ≡ bools_of (option_copied reply.entry) }
 {
@@ -110,6 +147,41 @@ pub extern "C" fn cvl_bools(
     };
     let count = copy(bools_of(port.last.reply(number as usize)), out);
     caller.give(Caller::of(port));
+    count
+}
+
+/// Where the truth values of a reply lie, and how many there are.
+fn bools_lie(reply: Option<&Reply>) -> (*const bool, u64)
+    ensures { BoolsLie (option_copied reply.entry) result.0 result.1 }
+{
+    match reply {
+        Some(Reply::Vector(Value::Bools(items))) => (items.as_ptr(), items.len() as u64),
+        _ => (ptr::null(), 0),
+    }
+}
+
+/// `cvl_ints_at` of truth values.
+#[unsafe(no_mangle)]
+pub extern "C" fn cvl_bools_at(
+    alloc: Global,
+    caller: &mut Caller,
+    number: u64,
+    at: &mut *const bool,
+) -> u64
+    ensures same { port_in caller.new ≡ port_in caller.old }
+    ensures lie { BoolsLie (reply_at (port_in caller.old) number) at.new result }
+{
+    let port = match caller.take(alloc).into_port() {
+        Ok(port) => port,
+        Err(shut) => {
+            caller.give(shut);
+            *at = ptr::null();
+            return 0;
+        }
+    };
+    let (there, count) = bools_lie(port.last.reply(number as usize));
+    caller.give(Caller::of(port));
+    *at = there;
     count
 }
 

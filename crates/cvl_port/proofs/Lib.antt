@@ -1,2 +1,3 @@
 mod LineLemmas
 mod PortLemmas
+pub mod BeginLemmas

@@ -7,10 +7,11 @@ ghost use Rattle.cvl_port.specs.Lines.{line_task};
 ghost use Rattle.cvl_port.specs.Posts.{prepared_task};
 ghost use Rattle.cvl_port.specs.declared.fault.PostFault.TheVariants.{BadCall, NotPrepared};
 
+use crate::copying::{copy_flat, is_owning};
 use crate::fault::PostFault;
 use crate::last::Last;
 use crate::port::Port;
-use crate::preparing::copied;
+use crate::preparing::{copied, prepared};
 use combiner::Polled;
 use cvl_text::Call;
 use scan_kernels::Sequential;
@@ -56,6 +57,23 @@ impl Port {
 
     /// Begins the prepared call of a number.
     pub fn begin_prepared(&mut self, alloc: Global, number: u64) -> Result<bool, PostFault>
+        ensures begun { AnswersBegin result NotPrepared (prepared_task self.old.prepared.items number) self.old self.new }
+        ensures machine { self.new.machine ≡ self.old.machine }
+        ensures prepared { self.new.prepared ≡ self.old.prepared }
+    {
+        let Some(call) = prepared(&self.prepared, number) else {
+            return Err(PostFault::NotPrepared);
+        };
+        if is_owning(call) {
+            return self.begin_owning(alloc, number);
+        }
+        let call = copy_flat(call);
+        self.begin(alloc, call)
+    }
+
+    /// The same of a call with items or names behind a pointer.
+    #[inline(never)]
+    fn begin_owning(&mut self, alloc: Global, number: u64) -> Result<bool, PostFault>
         ensures begun { AnswersBegin result NotPrepared (prepared_task self.old.prepared.items number) self.old self.new }
         ensures machine { self.new.machine ≡ self.old.machine }
         ensures prepared { self.new.prepared ≡ self.old.prepared }

@@ -1,6 +1,6 @@
 //! Calls that are read once and left again and again.
 
-ghost use Rattle.std.specs.Prelude.{◌≡◌, [], ◌∷◌, ◌++◌, ℕ, length, map, IfOk, IfErr, OnOk, OnErr, Some};
+ghost use Rattle.std.specs.Prelude.{◌≡◌, [], ◌∷◌, ◌++◌, ℕ, length, map, IfOk, IfErr, IfSome, IfNone, OnOk, OnErr, Some, None};
 ghost use Rattle.cvl_text.specs.Tasks.{task_of};
 ghost use Rattle.cvl_port.specs.Lines.{line_task};
 ghost use Rattle.cvl_port.specs.Posts.{AnswersBlock, AnswersPost, AreNotCopied, IsNotCopied, IsNotRead, prepared_task, prepared_tasks};
@@ -13,13 +13,22 @@ use crate::port::Port;
 use cvl_text::{Call, ReadFault};
 use std::alloc::Global;
 
+/// The prepared call of a number.
+#[inline(always)]
+pub(crate) fn prepared(calls: &[Call], number: u64) -> Option<&Call>
+    ensures found { IfSome result (λ call. prepared_task calls.now number ≡ Some (task_of call.now)) }
+    ensures not_found { IfNone result (prepared_task calls.now number ≡ None) }
+{
+    calls.get(number as usize)
+}
+
 /// A copy of the prepared call of a number.
 #[inline(always)]
-pub(crate) fn copied(alloc: Global, prepared: &[Call], number: u64) -> Result<Call, PostFault>
-    ensures found { IfOk result (λ call. prepared_task prepared.now number ≡ Some (task_of call)) }
-    ensures not_found { IfErr result (IsNotCopied (prepared_task prepared.now number)) }
+pub(crate) fn copied(alloc: Global, calls: &[Call], number: u64) -> Result<Call, PostFault>
+    ensures found { IfOk result (λ call. prepared_task calls.now number ≡ Some (task_of call)) }
+    ensures not_found { IfErr result (IsNotCopied (prepared_task calls.now number)) }
 {
-    let Some(call) = prepared.get(number as usize) else {
+    let Some(call) = prepared(calls, number) else {
         return Err(PostFault::NotPrepared);
     };
     match copy(alloc, call) {

@@ -75,8 +75,8 @@ unsafe extern "C" {
     pub fn cvl_poll(caller: *mut Caller, answer: *mut Answer) -> Status;
     pub fn cvl_step(caller: *mut Caller, answer: *mut Answer) -> Status;
     pub fn cvl_reply(caller: *mut Caller, number: u64, answer: *mut Answer) -> Status;
-    pub fn cvl_ints(caller: *mut Caller, number: u64, items: *mut i64, count: usize) -> u64;
-    pub fn cvl_bools(caller: *mut Caller, number: u64, items: *mut bool, count: usize) -> u64;
+    pub fn cvl_ints_at(caller: *mut Caller, number: u64, items: *mut *const i64) -> u64;
+    pub fn cvl_bools_at(caller: *mut Caller, number: u64, items: *mut *const bool) -> u64;
     pub fn cvl_lengths(caller: *mut Caller, number: u64, lengths: *mut usize, count: usize) -> u64;
     pub fn cvl_text(caller: *mut Caller, number: u64, text: *mut u8, room: usize, length: *mut u64) -> Status;
     pub fn cvl_look(caller: *mut Caller) -> u64;

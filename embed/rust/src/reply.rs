@@ -1,4 +1,5 @@
 use crate::raw::{self, Answer};
+use std::{ptr, slice};
 
 /// Why a call was not done.
 #[derive(Clone, Copy, Debug, PartialEq, Eq)]
@@ -43,6 +44,14 @@ pub enum Reply {
     Fault(Fault),
 }
 
+/// A copy of so many items, which lie there.
+unsafe fn copied<T: Copy>(items: *const T, count: u64) -> Vec<T> {
+    if count == 0 {
+        return Vec::new();
+    }
+    unsafe { slice::from_raw_parts(items, count as usize) }.to_vec()
+}
+
 impl Reply {
     pub(crate) fn read(caller: &mut raw::Caller, number: u64, answer: Answer) -> Reply {
         let count = answer.count as usize;
@@ -50,14 +59,14 @@ impl Reply {
             1 => Reply::Int(answer.value),
             2 => Reply::Bool(answer.value == 1),
             3 => {
-                let mut items = vec![0; count];
-                unsafe { raw::cvl_ints(caller, number, items.as_mut_ptr(), count) };
-                Reply::Ints(items)
+                let mut items = ptr::null();
+                let count = unsafe { raw::cvl_ints_at(caller, number, &mut items) };
+                Reply::Ints(unsafe { copied(items, count) })
             }
             4 => {
-                let mut items = vec![false; count];
-                unsafe { raw::cvl_bools(caller, number, items.as_mut_ptr(), count) };
-                Reply::Bools(items)
+                let mut items = ptr::null();
+                let count = unsafe { raw::cvl_bools_at(caller, number, &mut items) };
+                Reply::Bools(unsafe { copied(items, count) })
             }
             5 => {
                 let mut lengths = vec![0; count];
