@@ -294,7 +294,7 @@ static inline int32_t cvl_wait_after(cvl_caller *caller, uint32_t turns, cvl_ans
         else if (turns < CVL_FIRST_PAUSE)
             turns = CVL_FIRST_PAUSE;
         else
-            turns = CVL_LAST_PAUSE < 2 * turns ? CVL_LAST_PAUSE : 2 * turns;
+            turns = 2 * turns < CVL_LAST_PAUSE ? 2 * turns : (uint32_t)CVL_LAST_PAUSE;
     }
 }
 
