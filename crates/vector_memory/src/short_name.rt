@@ -1,4 +1,4 @@
-ghost use Rattle.std.specs.Prelude.{◌≡◌, IfSome};
+ghost use Rattle.std.specs.Prelude.{◌≡◌, ◌<◌, length, IfSome, IfNone};
 
 use crate::name::Name;
 use std::marker::Model;
@@ -42,7 +42,8 @@ impl ShortName {
 impl Name {
     /// The same name in one word, if it has so few bytes.
     pub fn short(self) -> Option<ShortName>
-        ensures { IfSome result (λ short. short ≡ self) }
+        ensures same { IfSome result (λ short. short ≡ self) }
+        ensures long { IfNone result (12 < length self) }
     {
         if self.middle != 0 || self.back != 0 {
             return None;

@@ -1,4 +1,4 @@
-use Rattle.std.proofs.Common.{◌≡◌, ℕ, List, refl, sym, ap, ◌∙◌, ne_eqb}
+use Rattle.std.proofs.Common.{◌≡◌, sym, ap, ◌∙◌, ne_eqb}
 use Rattle.std.specs.List.{fold}
 use Rattle.vector_memory.specs.Names.{back_of, fed_words, front_of, middle_of}
 use Rattle.vector_memory.proofs.name.NameHash.hash.Goals as goal
