@@ -1,8 +1,8 @@
 //! Calls as a history keeps them: in few bytes where their names are short and few, as in most.
 
-ghost use Rattle.std.specs.Prelude.{◌≡◌, IfSome, false};
+ghost use Rattle.std.specs.Prelude.{◌≡◌, ◌∷◌, [], IfSome, IfNone, false, true};
 ghost use Rattle.cvl_text.specs.Named.{ask_call, one_call, two_call};
-ghost use Rattle.call_history.specs.Kept.{IsBrief, call_of, is_whole};
+ghost use Rattle.call_history.specs.Kept.{IsBrief, are_short, call_of, is_kept_briefly, is_numbered, is_whole};
 
 use cvl_text::{AskWord, Call, OneWord, TwoWord, call_of_ask, call_of_one, call_of_two};
 use vector_memory::{Name, ShortName};
@@ -54,7 +54,8 @@ const _: () = prove!(size_of::<Kept>() == 32);
 
 /// A call that only replies, if its name is short.
 fn ask(word: AskWord, a: &Name) -> Option<Kept>
-    ensures { IfSome result (IsBrief (ask_call word a.now)) }
+    ensures brief { IfSome result (IsBrief (ask_call word a.now)) }
+    ensures long { IfNone result (are_short (a.now ∷ []) ≡ false) }
 {
     let a = a.short()?;
     Some(Kept::Ask { word, a })
@@ -62,7 +63,8 @@ fn ask(word: AskWord, a: &Name) -> Option<Kept>
 
 /// A call of one operand, if its names are short.
 fn one(word: OneWord, to: &Name, a: &Name) -> Option<Kept>
-    ensures { IfSome result (IsBrief (one_call word to.now a.now)) }
+    ensures brief { IfSome result (IsBrief (one_call word to.now a.now)) }
+    ensures long { IfNone result (are_short (a.now ∷ to.now ∷ []) ≡ false) }
 {
     let (to, a) = (to.short()?, a.short()?);
     Some(Kept::One { word, to, a })
@@ -70,16 +72,19 @@ fn one(word: OneWord, to: &Name, a: &Name) -> Option<Kept>
 
 /// A call of two operands, if its names are short.
 fn two(word: TwoWord, to: &Name, a: &Name, b: &Name) -> Option<Kept>
-    ensures { IfSome result (IsBrief (two_call word to.now a.now b.now)) }
+    ensures brief { IfSome result (IsBrief (two_call word to.now a.now b.now)) }
+    ensures long { IfNone result (are_short (a.now ∷ b.now ∷ to.now ∷ []) ≡ false) }
 {
     let (to, a, b) = (to.short()?, a.short()?, b.short()?);
     Some(Kept::Two { word, to, a, b })
 }
 
-/// A call with numbers, if its names are short and few.
+/// One of the calls with numbers that have at most three of names and numbers, if its names are short.
 #[inline(never)]
 fn numbered(call: &Call) -> Option<Kept>
-    ensures { IfSome result (IsBrief call.now) }
+    requires { is_numbered call.now ≡ true }
+    ensures brief { IfSome result (IsBrief call.now) }
+    ensures long { IfNone result (is_kept_briefly call.now ≡ false) }
 {
     match call {
         Call::Alo { to, n } => {
@@ -98,13 +103,14 @@ fn numbered(call: &Call) -> Option<Kept>
             let (a, p) = (a.short()?, *p);
             Some(Kept::Ext { a, p })
         }
-        _ => None,
+        _ => unreachable!(),
     }
 }
 
 /// The call in few bytes, if it has at most three names and numbers, each name is short, and it has no items of its own.
 pub(crate) fn brief(call: &Call) -> Option<Kept>
-    ensures { IfSome result (IsBrief call.now) }
+    ensures brief { IfSome result (IsBrief call.now) }
+    ensures long { IfNone result (is_kept_briefly call.now ≡ false) }
 {
     match call {
         Call::Get { a } => ask(AskWord::Get, a),
@@ -143,7 +149,19 @@ pub(crate) fn brief(call: &Call) -> Option<Kept>
         Call::Bck { kind, to, a, i } => two(TwoWord::Bck(*kind), to, a, i),
         Call::Pck { kind, to, a, f } => two(TwoWord::Pck(*kind), to, a, f),
         Call::Pkl { to, f, s } => two(TwoWord::Pkl, to, f, s),
-        _ => numbered(call),
+        Call::Alo { .. } => numbered(call),
+        Call::DisZ { .. } => numbered(call),
+        Call::DisB { .. } => numbered(call),
+        Call::Ext { .. } => numbered(call),
+        Call::SetInts { .. } => None,
+        Call::SetBools { .. } => None,
+        Call::Sel { .. } => None,
+        Call::Ind { .. } => None,
+        Call::IndSeg { .. } => None,
+        Call::SmpSeg { .. } => None,
+        Call::BckSeg { .. } => None,
+        Call::PckSeg { .. } => None,
+        Call::Rep { .. } => None,
     }
 }
 
