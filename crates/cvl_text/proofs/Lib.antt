@@ -7,6 +7,7 @@ pub mod WordLemmas
 pub mod AllOf
 pub mod NameTexts
 pub mod NumberTexts
+pub mod ShapeNumbers
 pub mod TruthTexts
 pub mod NumberReading
 pub mod LineTexts

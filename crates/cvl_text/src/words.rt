@@ -2,7 +2,7 @@
 
 ghost use Rattle.std.specs.Prelude.{◌≡◌, ◌≢◌, ◌++◌, length};
 ghost use Rattle.std.specs.Option.{option_and_then};
-ghost use Rattle.cvl_text.specs.Words.{beside, word_of};
+ghost use Rattle.cvl_text.specs.Words.{beside, same_text, word_of};
 
 use crate::word::{
     AskWord, B1, B2, Cmp, Kind, OneWord, ScanB, ScanZ, ThreeWord, TwoWord, Word, Z1, Z2,
@@ -207,13 +207,20 @@ fn word_among(rows: &[Row], operation: [u8; 3]) -> Option<Word>
     None
 }
 
+/// Whether two shapes are written the same, compared as one number each.
+fn is_same_shape(a: [u8; 4], b: [u8; 4]) -> bool
+    ensures { result ≡ same_text a b }
+{
+    u32::from_le_bytes(a) == u32::from_le_bytes(b)
+}
+
 /// The word that an operation makes in the first shape that is written so.
 #[tactic(auto, unfolding(crate::specs::Words::beside))]
 fn shaped_word(shapes: &[Shape], operation: [u8; 3], shape: [u8; 4]) -> Option<Word>
     ensures { result ≡ option_and_then (λ rows. beside rows.now operation) (beside shapes.now shape) }
 {
     for row in shapes {
-        if row.0 == shape {
+        if is_same_shape(row.0, shape) {
             return word_among(row.1, operation);
         }
     }
