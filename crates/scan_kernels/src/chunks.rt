@@ -69,7 +69,7 @@ pub(crate) fn segmented_size<T: Copy>(
 
 /// From how many items on it repays a caller to look up its operands once more and write a result over one of them, in place of
 /// into a vector that was kept: found by `bench over`.
-const OVERWRITES_PAY: usize = 16_384;
+const OVERWRITES_PAY: usize = 4_096;
 
 /// Whether a kernel that goes item by item is faster where it writes its result over an operand: many items, which do not go by
 /// chunks.

@@ -46,7 +46,7 @@ fn scans_over_a_vector(rt: HostRuntime) {
 #[test]
 fn pays_for_many_items(rt: HostRuntime) {
     let meter = Meter::new();
-    assert!(rt; overwrites_pay(&Sequential, &rt.alloc(), &meter, 16_384));
-    assert!(rt; !overwrites_pay(&Sequential, &rt.alloc(), &meter, 16_383));
-    assert!(rt; !overwrites_pay(&Sequential, &rt.alloc(), &Meter::with_chunk(7), 16_384));
+    assert!(rt; overwrites_pay(&Sequential, &rt.alloc(), &meter, 4_096));
+    assert!(rt; !overwrites_pay(&Sequential, &rt.alloc(), &meter, 4_095));
+    assert!(rt; !overwrites_pay(&Sequential, &rt.alloc(), &Meter::with_chunk(7), 4_096));
 }
