@@ -5,7 +5,7 @@ ghost use Rattle.std.specs.Option.{option_copied};
 ghost use Rattle.cvl_port.specs.Replies.{replies_of};
 ghost use Rattle.cvl_c.specs.Answers.{Shows, shown, bools_of, ints_of, lengths_of, text_of, written_over};
 ghost use Rattle.cvl_c.specs.Callers.{AsksPort, port_in};
-ghost use Rattle.cvl_c.specs.Reading.{BoolsLie, HasReply, IntsLie, ReadsItems, ReadsText, reply_at};
+ghost use Rattle.cvl_c.specs.Reading.{HasReply, Lie, ReadsItems, ReadsText, bools_in, ints_in, reply_at};
 
 use crate::answer::{Answer, shown};
 use crate::caller::Caller;
@@ -55,12 +55,42 @@ pub extern "C" fn cvl_reply(caller: &mut Caller, number: u64, answer: &mut Answe
     }
 }
 
+/// The vector of a reply that has integers.
+fn ints_in(reply: Option<&Reply>) -> Option<&Vec<i64>>
+    ensures { option_copied result ≡ ints_in (option_copied reply.entry) }
+{
+    match reply {
+        Some(Reply::Vector(Value::Ints(items))) => Some(items),
+        _ => None,
+    }
+}
+
+/// The vector of a reply that has truth values.
+fn bools_in(reply: Option<&Reply>) -> Option<&Vec<bool>>
+    ensures { option_copied result ≡ bools_in (option_copied reply.entry) }
+{
+    match reply {
+        Some(Reply::Vector(Value::Bools(items))) => Some(items),
+        _ => None,
+    }
+}
+
+/// Where the items of a vector lie, and how many there are; without a vector nowhere, and none.
+fn lie<T>(items: Option<&Vec<T>>) -> (*const T, u64)
+    ensures { Lie (option_copied items.entry) result.0 result.1 }
+{
+    match items {
+        Some(items) => (items.as_ptr(), items.len() as u64),
+        None => (ptr::null(), 0),
+    }
+}
+
 fn ints_of(reply: Option<&Reply>) -> &[i64]
     ensures { result.now ≡ ints_of (option_copied reply.entry) }
 {
-    match reply {
-        Some(Reply::Vector(Value::Ints(items))) => items.as_slice(),
-        _ => &[],
+    match ints_in(reply) {
+        Some(items) => items,
+        None => &[],
     }
 }
 
@@ -82,16 +112,6 @@ pub extern "C" fn cvl_ints(alloc: Global, caller: &mut Caller, number: u64, out:
     count
 }
 
-/// Where the integers of a reply lie, and how many there are.
-fn ints_lie(reply: Option<&Reply>) -> (*const i64, u64)
-    ensures { IntsLie (option_copied reply.entry) result.0 result.1 }
-{
-    match reply {
-        Some(Reply::Vector(Value::Ints(items))) => (items.as_ptr(), items.len() as u64),
-        _ => (ptr::null(), 0),
-    }
-}
-
 /// Where the integers of a reply lie, until the caller's last replies are others, and how many there are: nowhere and 0 where it is
 /// of another kind.
 #[unsafe(no_mangle)]
@@ -102,7 +122,7 @@ pub extern "C" fn cvl_ints_at(
     at: &mut *const i64,
 ) -> u64
     ensures same { port_in caller.new ≡ port_in caller.old }
-    ensures lie { IntsLie (reply_at (port_in caller.old) number) at.new result }
+    ensures lie { Lie (ints_in (reply_at (port_in caller.old) number)) at.new result }
 {
     let port = match caller.take(alloc).into_port() {
         Ok(port) => port,
@@ -112,7 +132,7 @@ pub extern "C" fn cvl_ints_at(
             return 0;
         }
     };
-    let (there, count) = ints_lie(port.last.reply(number as usize));
+    let (there, count) = lie(ints_in(port.last.reply(number as usize)));
     caller.give(Caller::of(port));
     *at = there;
     count
@@ -121,9 +141,9 @@ pub extern "C" fn cvl_ints_at(
 fn bools_of(reply: Option<&Reply>) -> &[bool]
     ensures { result.now ≡ bools_of (option_copied reply.entry) }
 {
-    match reply {
-        Some(Reply::Vector(Value::Bools(items))) => items.as_slice(),
-        _ => &[],
+    match bools_in(reply) {
+        Some(items) => items,
+        None => &[],
     }
 }
 
@@ -150,16 +170,6 @@ pub extern "C" fn cvl_bools(
     count
 }
 
-/// Where the truth values of a reply lie, and how many there are.
-fn bools_lie(reply: Option<&Reply>) -> (*const bool, u64)
-    ensures { BoolsLie (option_copied reply.entry) result.0 result.1 }
-{
-    match reply {
-        Some(Reply::Vector(Value::Bools(items))) => (items.as_ptr(), items.len() as u64),
-        _ => (ptr::null(), 0),
-    }
-}
-
 /// `cvl_ints_at` of truth values.
 #[unsafe(no_mangle)]
 pub extern "C" fn cvl_bools_at(
@@ -169,7 +179,7 @@ pub extern "C" fn cvl_bools_at(
     at: &mut *const bool,
 ) -> u64
     ensures same { port_in caller.new ≡ port_in caller.old }
-    ensures lie { BoolsLie (reply_at (port_in caller.old) number) at.new result }
+    ensures lie { Lie (bools_in (reply_at (port_in caller.old) number)) at.new result }
 {
     let port = match caller.take(alloc).into_port() {
         Ok(port) => port,
@@ -179,7 +189,7 @@ pub extern "C" fn cvl_bools_at(
             return 0;
         }
     };
-    let (there, count) = bools_lie(port.last.reply(number as usize));
+    let (there, count) = lie(bools_in(port.last.reply(number as usize)));
     caller.give(Caller::of(port));
     *at = there;
     count
