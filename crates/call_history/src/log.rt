@@ -1,9 +1,8 @@
 //! The entries of a history as they lie in memory: each call in few bytes where it can be, and else whole, beside the others.
 
-ghost use Rattle.std.specs.Prelude.{◌≡◌, ◌+◌, ◌++◌, ◌^◌, ◌<◌, ◌≤◌, ◌∷◌, [], List, length, vec_len, vec_capacity, slice_get, Some, true, OnOk, IsOk};
+ghost use Rattle.std.specs.Prelude.{◌≡◌, ◌+◌, ◌++◌, ◌^◌, ◌<◌, ◌≤◌, ◌∷◌, [], List, length, vec_len, vec_capacity, slice_get, Some, OnOk, IsOk};
 ghost use Rattle.cvl_text.specs.declared.call.Call.{Call as CallValue};
 ghost use Rattle.call_history.specs.History.{entry_before};
-ghost use Rattle.call_history.specs.Kept.{is_kept_briefly};
 ghost use Rattle.call_history.specs.Logs.{call_in, IsThere};
 ghost use Rattle.call_history.specs.Refs.{call_shown, entry_of};
 
@@ -12,7 +11,6 @@ use crate::kept::{Kept, brief, call_again};
 use cvl_text::Call;
 use std::alloc::{AllocError, Global};
 use std::marker::Model;
-use std::mem;
 
 /// An entry, but for a call that lies whole.
 #[derive(Clone, Copy, Debug)]
@@ -40,15 +38,10 @@ fn keep(calls: &mut Vec<Call>, call: Call) -> Kept
     ensures there { IsThere calls.new.items result }
     ensures grows { (more : List CallValue) × (calls.new.items ≡ calls.old.items ++ more) }
     ensures few { vec_len calls.new ≤ vec_len calls.old + 1 }
-    ensures brief { is_kept_briefly call ≡ true → vec_len calls.new ≡ vec_len calls.old }
     ensures capacity { vec_capacity calls.new ≡ vec_capacity calls.old }
 {
     match brief(&call) {
-        // It owns no memory, so there is nothing to give back.
-        Some(kept) => {
-            mem::forget(call);
-            kept
-        }
+        Some(kept) => kept,
         None => {
             let place = calls.len();
             calls.push_reserved(call);
