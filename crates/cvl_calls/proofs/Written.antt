@@ -1,11 +1,9 @@
 -- A result that is written over an operand: the vectors that are taken out of the memory are those that the call reads (`same_ints`,
 -- `other_stays`), and putting the result back is the call's step (`applied_over`).
-use Rattle.std.proofs.Common.{◌≡◌, ℤ, List, [], length, map, true, false, Option, Some, None, Ok, refl, sym, ap, ◌∙◌, ℕ, ◌≤◌, arith}
+use Rattle.std.proofs.Common.{◌≡◌, ℤ, List, [], length, map, true, false, Option, Some, None, Result, Ok, Err, refl, sym, ap, ◌∙◌, ℕ, ◌≤◌, arith}
 use Rattle.std.proofs.lemmas.Bool.{eq-eqb}
 use Rattle.std.proofs.lemmas.List.{length-map}
-use Rattle.item_operations.specs.declared.operation.Z1.{Z1}
 use Rattle.item_operations.specs.declared.operation.Z2.{Z2}
-use Rattle.item_operations.specs.declared.combine.ScanZ.{ScanZ}
 use Rattle.item_operations.specs.IntegerOps.{alter_z, apply_z}
 use Rattle.item_operations.specs.IntegerScans.{combine_z, unit_z}
 use Rattle.scan_kernels.specs.Segmented.{scanned}
@@ -19,10 +17,11 @@ use Rattle.vector_memory.specs.States.{State, spent, value_at, put, refusal}
 use Rattle.vector_memory.proofs.Putting.{fits_back, lookup-inserted, put-put, value_at-put}
 use Rattle.vector_memory.proofs.StateLemmas.{value_at-fits}
 use Rattle.cvl_text.specs.Answers.{Done}
+use Rattle.cvl_text.specs.declared.fault.Fault.{Fault}
 use Rattle.cvl_calls.specs.Conditions.{seconds}
-use Rattle.cvl_calls.specs.Operands.{integers}
-use Rattle.cvl_calls.specs.Outcomes.{Held, Stores}
-use Rattle.cvl_calls.specs.Over.{CanApply, WasTaken, made_by}
+use Rattle.cvl_calls.specs.Operands.{integers, ints}
+use Rattle.cvl_calls.specs.Outcomes.{Effect, Operand, Held, Stores, ◌>>=◌, viewed}
+use Rattle.cvl_calls.specs.Over.{CanApply, WasTaken, made_by, work_by}
 use Rattle.cvl_calls.specs.declared.over.one.Change.{Change}
 use Rattle.cvl_calls.specs.declared.over.one.Change.TheVariants as changes
 use Rattle.cvl_calls.specs.Steps.{followed, refused}
@@ -45,13 +44,24 @@ pub as_long_as_one : (change : Change) (xs : List ℤ) → length (made_by chang
 as_long_as_one (changes.Alter op) xs = length-map xs (alter_z op)
 as_long_as_one (changes.Scan op) xs = length-scanned (combine_z op) (unit_z op) xs
 
-pub altered : (op : Z1) (xs : List ℤ) → map_one integers integers (alter_z op) (Held (Some (Ints xs))) ≡ Ok (Stores (Ints (map (alter_z op) xs)))
-unfolding map_one
-altered op xs = refl
+-- the work of a call on one vector, on integers
+pub work_by-ints : (change : Change) (xs : List ℤ) → work_by change (Held (Some (Ints xs))) ≡ Ok (Stores (Ints (made_by change xs)))
+unfolding map_one scan
+work_by-ints (changes.Alter op) xs = refl
+work_by-ints (changes.Scan op) xs = refl
 
-pub scanned_whole : (op : ScanZ) (xs : List ℤ) → scan integers (combine_z op) (unit_z op) (Held (Some (Ints xs))) ≡ Ok (Stores (Ints (scanned (combine_z op) (unit_z op) xs)))
-unfolding scan
-scanned_whole op xs = refl
+-- what was read, seen by view, and then an effect of it
+viewed-then : {X : Type 0} (view : X → List ℤ) (effect : List ℤ → Effect) (r : Result X Fault) → viewed (λ x. effect (view x)) r ≡ (viewed view r >>= (λ xs. Ok (effect xs)))
+viewed-then view effect (Ok x) = refl
+viewed-then view effect (Err f) = refl
+
+-- the work of a call on one vector, on what its operand reads
+pub work_by-read : {X : Type 0} (view : X → List ℤ) (change : Change) (r : Result X Fault) (a : Operand) → viewed view r ≡ ints a → viewed (λ x. Stores (Ints (made_by change (view x)))) r ≡ work_by change a
+unfolding map_one scan
+work_by-read view (changes.Alter op) r a e =
+    viewed-then view (λ xs. Stores (Ints (map (alter_z op) xs))) r ∙ ap (λ (read : Result (List ℤ) Fault). read >>= (λ xs. Ok (Stores (Ints (map (alter_z op) xs))))) e
+work_by-read view (changes.Scan op) r a e =
+    viewed-then view (λ xs. Stores (Ints (scanned (combine_z op) (unit_z op) xs))) r ∙ ap (λ (read : Result (List ℤ) Fault). read >>= (λ xs. Ok (Stores (Ints (scanned (combine_z op) (unit_z op) xs))))) e
 
 -- another name stands for what it stood for
 pub other_stays : (m held : State) (n k : Name) (between : Content) (o : Option Content) → same_name n k ≡ false → held ≡ put m n between → value_at m k ≡ o → value_at held k ≡ o

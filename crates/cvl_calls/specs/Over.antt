@@ -1,16 +1,17 @@
 -- Calls whose result may be written over an operand.
-use Rattle.std.specs.Prelude.{◌≡◌, ◌≤◌, ℕ, ℤ, List, [], length, map, All, None, Some, Ok, not, true}
+use Rattle.std.specs.Prelude.{◌≡◌, ◌≤◌, ℕ, ℤ, List, [], length, map, All, None, Some, Ok, Result}
 use Rattle.item_operations.specs.declared.operation.Z2.{Z2}
 use Rattle.item_operations.specs.IntegerOps.{IsAllowed, alter_z}
 use Rattle.item_operations.specs.IntegerScans.{combine_z, unit_z}
 use Rattle.scan_kernels.specs.Segmented.{scanned}
 use Rattle.vector_memory.specs.declared.name.Name.{Name}
 use Rattle.vector_memory.specs.Contents.{Ints}
-use Rattle.vector_memory.specs.Names.{same_name}
 use Rattle.vector_memory.specs.States.{State, IsLawful, value_at, put}
-use Rattle.cvl_text.specs.declared.call.Call.{Call}
-use Rattle.cvl_text.specs.declared.call.Call.TheVariants as calls
+use Rattle.cvl_text.specs.declared.fault.Fault.{Fault}
 use Rattle.cvl_calls.specs.Conditions.{seconds}
+use Rattle.cvl_calls.specs.Operands.{integers}
+use Rattle.cvl_calls.specs.Outcomes.{Effect, Operand}
+use Rattle.cvl_calls.specs.Work.{map_one, scan}
 use Rattle.cvl_calls.specs.declared.over.one.Change.{Change}
 use Rattle.cvl_calls.specs.declared.over.one.Change.TheVariants as changes
 
@@ -43,14 +44,7 @@ abbrev pub made_by : Change → List ℤ → List ℤ
 made_by (changes.Alter op) xs = map (alter_z op) xs
 made_by (changes.Scan op) xs = scanned (combine_z op) (unit_z op) xs
 
--- One vector of a call item by item, or of a scan, lies at its target, and the other, if there are two, does not.
-abbrev pub LiesAtTarget : State → Call → Type 0
-LiesAtTarget m (calls.MapZ2 op to a b) = CanApply m op a b × (same_name to a ≡ not (same_name to b))
-LiesAtTarget m (calls.MapZ1 op to a) = IsInts m to × (same_name to a ≡ true)
-LiesAtTarget m (calls.ScanOfZ op to a None) = IsInts m to × (same_name to a ≡ true)
-LiesAtTarget m other = ⊥
-
--- A result may be written over the vector at its target, outside a block: in a block that vector has to stay for an undo.
-pub record GoesOver (m : State) (call : Call) : Type 0 where
-  pub at_target : LiesAtTarget m call
-  pub outside : m.block ≡ None
+-- the work of such a call
+abbrev pub work_by : Change → Operand → Result Effect Fault
+work_by (changes.Alter op) a = map_one integers integers (alter_z op) a
+work_by (changes.Scan op) a = scan integers (combine_z op) (unit_z op) a

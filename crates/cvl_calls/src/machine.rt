@@ -9,7 +9,7 @@ ghost use Rattle.cvl_calls.specs.Work.{work};
 ghost use Rattle.cvl_calls.specs.Runs.{TakesNoMemory, runs_kernel, tests_index};
 
 use crate::judging::judge;
-use crate::over::{goes_over, step_over};
+use crate::over::{Change, change_step, map_step};
 use crate::product::Product;
 use crate::running::run_with;
 use crate::spare::Spare;
@@ -183,7 +183,55 @@ pub fn step_metered(
 /// `step_metered`, with vectors that were replaced and are kept for the next results. Where one operand of many integers lies at
 /// the target of a call item by item, or of a scan, the result is written over it, and takes neither memory nor what was kept; but
 /// not in a block, where the operand has to stay for an undo. In a block there has to be a change left.
+#[inline(always)]
 pub fn step_with(
+    execution: &impl Execution,
+    alloc: Global,
+    meter: &mut Meter,
+    spare: &mut Spare,
+    memory: &mut Memory,
+    call: &Call,
+) -> Result<Reply, OutOfMemory>
+    requires may_change { MayChange memory.old }
+    ensures ok { IfOk result (λ reply. stepped memory.old (task_of call.now)
+        ≡ record { memory = memory.new; answer = answer_of reply }) }
+    ensures lacks { OnErr result (MayLackMemory memory.old (task_of call.now)) }
+    ensures answered { TakesNoMemory (task_of call.now).word → IsOk result }
+    ensures err { OnErr result (memory.new ≡ memory.old) }
+    ensures counted { CountsStep (runs_on memory.old (task_of call.now)) result meter.old meter.new }
+{
+    match call {
+        Call::MapZ2 { op, to, a, b } => map_step(
+            execution, alloc, meter, spare, memory, *op, to, a, b,
+        ),
+        Call::MapZ1 { op, to, a } => change_step(
+            execution,
+            alloc,
+            meter,
+            spare,
+            memory,
+            Change::Alter(*op),
+            to,
+            a,
+        ),
+        Call::ScanOfZ { op, to, a, s: None } => change_step(
+            execution,
+            alloc,
+            meter,
+            spare,
+            memory,
+            Change::Scan(*op),
+            to,
+            a,
+        ),
+        _ => step_apart(execution, alloc, meter, spare, memory, call),
+    }
+}
+
+/// `step_with` by what all calls share: what is left to be done of a call, and what was made of it. In a block there has to be a
+/// change left.
+#[inline(never)]
+fn step_apart(
     execution: &impl Execution,
     alloc: Global,
     meter: &mut Meter,
@@ -204,9 +252,6 @@ pub fn step_with(
         Err(Stop::Fault(fault)) => return Ok(Reply::Fault(fault)),
         Err(Stop::OutOfMemory) => return Err(OutOfMemory),
     };
-    if goes_over(execution, meter, &spare, memory, call, &judged) {
-        return Ok(step_over(alloc, meter, memory, call));
-    }
     match run_with(execution, alloc, meter, spare, judged) {
         Ok(product) => apply_with(spare, memory, target(call), product),
         Err(OutOfMemory) => Err(OutOfMemory),

@@ -6,25 +6,37 @@ ghost use Rattle.cvl_calls.specs.Outcomes.{effect_of};
 
 use crate::judged::Judged;
 use crate::product::Product;
+use crate::spare::Spare;
 use cvl_text::Reply;
+use scan_kernels::Source;
 use segment_desc::{OutOfMemory, Segd};
-use std::alloc::Global;
+use std::alloc::{AllocError, Global};
 use vector_memory::Value;
+
+/// The items again, in a vector that was kept if one is as large.
+#[inline(always)]
+fn copy<T: Copy>(source: impl Source<T>, items: &[T]) -> Result<Vec<T>, AllocError>
+    ensures { IfOk result (λ v. v.items ≡ items.now) }
+{
+    let mut made = source.vector(items.len())?;
+    made.extend_from_slice(items)?;
+    Ok(made)
+}
 
 /// The integers of a line.
 #[inline(always)]
-pub(crate) fn copied_ints(alloc: Global, xs: &[i64]) -> Result<Product, OutOfMemory>
+pub(crate) fn copied_ints(spare: &mut Spare, xs: &[i64]) -> Result<Product, OutOfMemory>
     ensures { IfOk result (λ product. effect_of product ≡ made (Judged.SetInts xs.entry)) }
 {
-    Ok(Product::Store(Value::Ints(Vec::from_slice(alloc, xs)?)))
+    Ok(Product::Store(Value::Ints(copy(spare, xs)?)))
 }
 
 /// The truth values of a line.
 #[inline(always)]
-pub(crate) fn copied_bools(alloc: Global, xs: &[bool]) -> Result<Product, OutOfMemory>
+pub(crate) fn copied_bools(spare: &mut Spare, xs: &[bool]) -> Result<Product, OutOfMemory>
     ensures { IfOk result (λ product. effect_of product ≡ made (Judged.SetBools xs.entry)) }
 {
-    Ok(Product::Store(Value::Bools(Vec::from_slice(alloc, xs)?)))
+    Ok(Product::Store(Value::Bools(copy(spare, xs)?)))
 }
 
 /// The value, to be replied.
@@ -77,7 +89,7 @@ pub(crate) fn lengths_of(alloc: Global, segments: &Segd) -> Result<Product, OutO
 /// The items, with another at one place.
 #[inline(always)]
 pub(crate) fn replaced(
-    alloc: Global,
+    spare: &mut Spare,
     xs: &[i64],
     place: usize,
     x: i64,
@@ -85,7 +97,7 @@ pub(crate) fn replaced(
     requires { IsReady (Judged.Rep xs place x) }
     ensures { IfOk result (λ product. effect_of product ≡ made (Judged.Rep xs.entry place x)) }
 {
-    let mut made = Vec::from_slice(alloc, xs)?;
+    let mut made = copy(spare, xs)?;
     made[place] = x;
     Ok(Product::Store(Value::Ints(made)))
 }

@@ -50,8 +50,8 @@ pub fn run_with(
     ensures answered { TakesNoMemory (word_of judged.entry) → IsOk result }
 {
     match judged {
-        Judged::SetInts(xs) => copied_ints(alloc, xs),
-        Judged::SetBools(xs) => copied_bools(alloc, xs),
+        Judged::SetInts(xs) => copied_ints(spare, xs),
+        Judged::SetBools(xs) => copied_bools(spare, xs),
         Judged::Get(value) => replied(value),
         Judged::Mov(value) => copied(value),
         Judged::Free => Ok(Product::Free),
@@ -119,6 +119,6 @@ pub fn run_with(
             execution, spare, meter, flags, segments,
         )),
         Judged::Ext(x) => Ok(Product::Reply(Reply::Int(x))),
-        Judged::Rep(xs, place, x) => replaced(alloc, xs, place, x),
+        Judged::Rep(xs, place, x) => replaced(spare, xs, place, x),
     }
 }

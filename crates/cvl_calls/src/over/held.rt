@@ -1,13 +1,17 @@
-//! The integers of a name, lent, or taken out of the memory and put back.
+//! The integers of a name: lent, taken out of the memory and put back, or stored.
 
-ghost use Rattle.std.specs.Prelude.{[], ◌≡◌, ℤ, List, Some, None, length, IfSome, IsTrue};
-ghost use Rattle.vector_memory.specs.Contents.{Ints};
-ghost use Rattle.vector_memory.specs.States.{put, value_at};
+ghost use Rattle.std.specs.Prelude.{[], ◌≡◌, ℤ, List, Some, None, length, IfOk, IfSome, IsTrue, OnErr};
+ghost use Rattle.vector_memory.specs.Contents.{Ints, content_of};
+ghost use Rattle.vector_memory.specs.States.{FitsLimits, MayChange, put, refusal, value_at};
+ghost use Rattle.cvl_text.specs.Answers.{answer_of};
 ghost use Rattle.cvl_calls.specs.Over.{IsInts, WasTaken};
+ghost use Rattle.cvl_calls.specs.Steps.{stored};
 
+use crate::spare::Spare;
+use cvl_text::{Fault, Reply};
 use std::alloc::Global;
 use vector_memory::laws::memories_are_lawful;
-use vector_memory::{Memory, Name, Value};
+use vector_memory::{Memory, Name, OutOfMemory, StoreFault, Value};
 
 /// The integers of a name, if that is what it stands for.
 pub(crate) fn lent<'a>(memory: &'a Memory, name: &Name) -> Option<&'a [i64]>
@@ -59,5 +63,33 @@ pub(crate) fn give(memory: &mut Memory, name: Name, items: Vec<i64>)
     match memory.replace(name, Value::Ints(items)) {
         Ok(_) => {}
         Err(_) => unreachable!(),
+    }
+}
+
+/// Stores a value that a call made, and keeps the vector that it replaced for a next result: the reply. In a block there has to be a
+/// change left.
+#[inline(always)]
+pub(crate) fn store(
+    spare: &mut Spare,
+    memory: &mut Memory,
+    to: &Name,
+    value: Value,
+) -> Result<Reply, OutOfMemory>
+    requires fits { FitsLimits memory.old.limit (content_of value) }
+    requires may_change { MayChange memory.old }
+    ensures ok { IfOk result (λ reply. stored memory.old to.now (content_of value)
+        ≡ record { memory = memory.new; answer = answer_of reply }) }
+    ensures err { OnErr result (memory.new ≡ memory.old) }
+{
+    match memory.replace(*to, value) {
+        Ok(before) => {
+            if let Some(value) = before {
+                spare.keep(value);
+            }
+            Ok(Reply::Done)
+        }
+        Err(StoreFault::NoRoom) => Ok(Reply::Fault(Fault::NoRoom)),
+        Err(StoreFault::TooManyNames) => Ok(Reply::Fault(Fault::TooManyNames)),
+        Err(StoreFault::OutOfMemory) => Err(OutOfMemory),
     }
 }

@@ -1,29 +1,34 @@
-//! A call on two vectors whose result is written over one of them.
+//! A call item by item on two vectors, whose result may be written over one of them.
 
-ghost use Rattle.std.specs.Prelude.{◌≡◌, None, Some, true, false, not, is_ok, length, All, IsTrue};
+ghost use Rattle.std.specs.Prelude.{◌≡◌, None, Some, true, false, not, is_ok, length, All, IfOk, IsTrue, OnErr};
 ghost use Rattle.item_operations.specs.IntegerOps.{IsAllowed, apply_z};
 ghost use Rattle.scan_kernels.specs.Elementwise.{item_by_item};
 ghost use Rattle.scan_kernels.specs.Metering.{raised};
 ghost use Rattle.vector_memory.specs.Names.{same_name};
-ghost use Rattle.vector_memory.specs.States.{value_at};
-ghost use Rattle.cvl_text.specs.Answers.{Done};
+ghost use Rattle.vector_memory.specs.States.{MayChange, value_at};
+ghost use Rattle.cvl_text.specs.Answers.{Done, answer_of};
 ghost use Rattle.cvl_calls.specs.Conditions.{seconds};
 ghost use Rattle.cvl_calls.specs.Operands.{integers};
-ghost use Rattle.cvl_calls.specs.Outcomes.{Held};
+ghost use Rattle.cvl_calls.specs.Outcomes.{Held, MayRunOut};
 ghost use Rattle.cvl_calls.specs.Over.{CanApply};
-ghost use Rattle.cvl_calls.specs.Steps.{followed};
+ghost use Rattle.cvl_calls.specs.Steps.{CountsStep, followed};
 ghost use Rattle.cvl_calls.specs.Work.{map_two};
 
 use crate::conditions::seconds;
-use crate::over::held::{give, lent, take};
-use cvl_text::Z2;
-use scan_kernels::{Meter, map2_z_over_first, map2_z_over_second};
+use crate::judged::Judged;
+use crate::over::held::{give, lent, store, take};
+use crate::shapes::elementwise::map_ints;
+use crate::spare::Spare;
+use cvl_text::{Fault, Reply, Z2};
+use scan_kernels::{
+    Execution, Meter, Source, map2_z, map2_z_over_first, map2_z_over_second, overwrites_pay,
+};
 use std::alloc::Global;
 use vector_memory::laws::memories_are_lawful;
-use vector_memory::{Memory, Name};
+use vector_memory::{Memory, Name, OutOfMemory, StoreFault, Value};
 
 /// Whether the operation can be applied to the integers of two names.
-pub(crate) fn can_apply(memory: &Memory, op: Z2, a: &Name, b: &Name) -> bool
+fn can_apply(memory: &Memory, op: Z2, a: &Name, b: &Name) -> bool
     ensures { IsTrue result → CanApply memory.now op a.now b.now }
 {
     let Some(xs) = lent(memory, a) else {
@@ -119,8 +124,9 @@ fn apply_over_second(
     give(memory, to, made);
 }
 
-/// The step of `to = OP a b`, where either `a` or `b` is the target.
-pub(crate) fn map_over(
+/// The step of `to = OP a b`, where either `a` or `b` is the target. It stands apart, so that the step of all others stays short.
+#[inline(never)]
+fn map_over(
     alloc: Global,
     meter: &mut Meter,
     memory: &mut Memory,
@@ -142,4 +148,68 @@ pub(crate) fn map_over(
     } else {
         apply_over_second(alloc, meter, memory, op, a, to);
     }
+}
+
+/// Whether the result of `to = OP a b` is to be written over an operand: of many integers, of which one vector lies at the target and
+/// the other does not, and outside a block, which may be undone.
+#[inline(always)]
+fn goes_over(
+    execution: &impl Execution,
+    spare: &impl Source<i64>,
+    meter: &Meter,
+    memory: &Memory,
+    count: usize,
+    op: Z2,
+    to: &Name,
+    a: &Name,
+    b: &Name,
+) -> bool
+    ensures can { IsTrue result → CanApply memory.now op a.now b.now }
+    ensures either { IsTrue result → same_name to.now a.now ≡ not (same_name to.now b.now) }
+    ensures outside { IsTrue result → memory.now.block ≡ None }
+{
+    if !overwrites_pay(execution, spare, meter, count) || memory.in_block() {
+        return false;
+    }
+    let (is_first, is_second) = (to == a, to == b);
+    is_first != is_second && can_apply(memory, op, a, b)
+}
+
+/// The step of `to = OP a b` on integers, which is judged, run and stored here: what all calls share is moved and cleared for more
+/// than a short one takes. In a block there has to be a change left.
+#[inline(never)]
+pub(crate) fn map_step(
+    execution: &impl Execution,
+    alloc: Global,
+    meter: &mut Meter,
+    spare: &mut Spare,
+    memory: &mut Memory,
+    op: Z2,
+    to: &Name,
+    a: &Name,
+    b: &Name,
+) -> Result<Reply, OutOfMemory>
+    requires may_change { MayChange memory.old }
+    ensures ok { IfOk result (λ reply. followed memory.old (Some to.now) (map_two integers integers (seconds op) (apply_z op) (Held (value_at memory.old a.now)) (Held (value_at memory.old b.now)))
+        ≡ record { memory = memory.new; answer = answer_of reply }) }
+    ensures lacks { OnErr result (MayRunOut false (map_two integers integers (seconds op) (apply_z op) (Held (value_at memory.old a.now)) (Held (value_at memory.old b.now)))) }
+    ensures err { OnErr result (memory.new ≡ memory.old) }
+    ensures counted { CountsStep (is_ok (map_two integers integers (seconds op) (apply_z op) (Held (value_at memory.old a.now)) (Held (value_at memory.old b.now)))) result meter.old meter.new }
+{
+    memories_are_lawful(memory);
+    let judged = match map_ints(memory, op, a, b) {
+        Ok(judged) => judged,
+        Err(fault) => return Ok(Reply::Fault(fault)),
+    };
+    let Judged::MapInts(judged_op, xs, ys) = judged else {
+        unreachable!()
+    };
+    if goes_over(execution, &spare, meter, memory, xs.len(), op, to, a, b) {
+        map_over(alloc, meter, memory, op, *to, a, b);
+        return Ok(Reply::Done);
+    }
+    let Ok(made) = map2_z(execution, &mut *spare, meter, judged_op, xs, ys) else {
+        return Err(OutOfMemory);
+    };
+    store(spare, memory, to, Value::Ints(made))
 }
