@@ -27,19 +27,21 @@ extern "C" {
 
 /* The version of this header: the first number changes where programs have to. */
 #define CVL_VERSION_MAJOR 1
-#define CVL_VERSION_MINOR 0
+#define CVL_VERSION_MINOR 1
 
 /* A caller, opaque. One that is zeroed is shut, and every function answers CVL_SHUT to it; so is one that was closed. Never copy an
- * open one: two copies are one caller, and a call of a copy whose other was closed is not noticed. */
+ * open one: two copies are one caller, and a call of a copy whose other was closed is not noticed. Each call writes to its caller, so
+ * callers are 64 bytes apart: threads whose callers lie in one array do not take one line of memory from each other. */
 typedef struct cvl_caller {
     uint64_t state;
     void *port;
+    uint64_t apart[6];
 } cvl_caller;
 
 #ifdef __cplusplus
-#define CVL_CALLER_INIT {0, nullptr}
+#define CVL_CALLER_INIT {0, nullptr, {0}}
 #else
-#define CVL_CALLER_INIT {0, NULL}
+#define CVL_CALLER_INIT {0, NULL, {0}}
 #endif
 
 /* What functions answer. Below 0: nothing was done. */

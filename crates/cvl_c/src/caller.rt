@@ -9,13 +9,17 @@ use std::alloc::Global;
 /// The state of a caller that is open.
 pub(crate) const OPEN: u64 = 0x6376_6c20_6f70_656e;
 
-/// A caller as C has it.
+/// A caller as C has it. Callers lie side by side in a program's array, and each call writes to its own: so each is as long as a line of
+/// memory, and no thread takes the line away from another.
 #[repr(C)]
 pub struct Caller {
     state: u64,
     handle: Handle,
+    apart: [u64; 6],
     ghost tagged: { is_some handle.port ≡ (state == 0x6376_6c20_6f70_656e) },
 }
+
+const _: () = prove!(size_of::<Caller>() == 64);
 
 impl Caller {
     /// Whether it is open.
@@ -34,7 +38,11 @@ impl Caller {
         if self.state != OPEN {
             return Err(self);
         }
-        let Caller { state: _, handle } = self;
+        let Caller {
+            state: _,
+            handle,
+            apart: _,
+        } = self;
         Ok(handle.into_box())
     }
 
@@ -45,6 +53,7 @@ impl Caller {
         Caller {
             state: OPEN,
             handle: Handle::of(port),
+            apart: [0; 6],
         }
     }
 
@@ -54,7 +63,12 @@ impl Caller {
         ensures port { result.1 ≡ port.value }
     {
         let handle = Handle::nowhere(nothing, alloc);
-        (Caller { state: 0, handle }, Box::into_inner(port))
+        let caller = Caller {
+            state: 0,
+            handle,
+            apart: [0; 6],
+        };
+        (caller, Box::into_inner(port))
     }
 
     /// A caller that is shut.
@@ -64,6 +78,7 @@ impl Caller {
         Caller {
             state: 0,
             handle: Handle::nowhere(nothing(), alloc),
+            apart: [0; 6],
         }
     }
 
@@ -87,7 +102,11 @@ impl Caller {
     pub(crate) fn let_go(self)
         requires { self.handle.port ≡ None }
     {
-        let Caller { state: _, handle } = self;
+        let Caller {
+            state: _,
+            handle,
+            apart: _,
+        } = self;
         handle.let_go();
     }
 }

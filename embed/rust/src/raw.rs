@@ -20,11 +20,12 @@ pub const UNFINISHED: Status = 2;
 pub struct Caller {
     state: u64,
     port: *mut c_void,
+    apart: [u64; 6],
 }
 
 impl Caller {
     pub fn shut() -> Caller {
-        Caller { state: 0, port: ptr::null_mut() }
+        Caller { state: 0, port: ptr::null_mut(), apart: [0; 6] }
     }
 
     pub fn is_open(&self) -> bool {
