@@ -25,9 +25,9 @@
 extern "C" {
 #endif
 
-/* The version of this header: the first number changes where programs have to. */
-#define CVL_VERSION_MAJOR 1
-#define CVL_VERSION_MINOR 1
+/* The version of this header: the first number changes where programs have to, or have to be compiled anew. */
+#define CVL_VERSION_MAJOR 2
+#define CVL_VERSION_MINOR 0
 
 /* A caller, opaque. One that is zeroed is shut, and every function answers CVL_SHUT to it; so is one that was closed. Never copy an
  * open one: two copies are one caller, and a call of a copy whose other was closed is not noticed. Each call writes to its caller, so

@@ -31,6 +31,7 @@ impl Port {
             prepared: _,
             place: _,
             last: _,
+            apart: _,
         } = self;
         let Some(machine) = Arc::into_inner(machine) else {
             return Closing::OthersOpen;

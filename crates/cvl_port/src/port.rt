@@ -17,6 +17,8 @@ pub struct Port {
     /// The place in the history of the entry whose reply is the first of the last.
     pub place: u64,
     pub last: Last,
+    /// A line of memory behind what each call writes: ports of one machine lie one behind another, and belong to threads of their own.
+    pub(crate) apart: [u64; 8],
     ghost placed: { caller.machine ≡ arc_value machine },
 }
 
@@ -35,6 +37,7 @@ impl Port {
             prepared: Vec::new(alloc),
             place: 0,
             last: Last::Nothing,
+            apart: [0; 8],
         }
     }
 }
