@@ -9,9 +9,24 @@ ghost use Rattle.cvl_calls.specs.Steps.{stored};
 
 use crate::spare::Spare;
 use cvl_text::{Fault, Reply};
+use scan_kernels::{Execution, Meter, Source, overwrites_pay};
 use std::alloc::Global;
 use vector_memory::laws::memories_are_lawful;
 use vector_memory::{Memory, Name, OutOfMemory, StoreFault, Value};
+
+/// Whether a result of so many integers may be written over an operand: where that pays, and outside a block, which may be undone.
+#[inline(always)]
+pub(crate) fn may_go_over(
+    execution: &impl Execution,
+    spare: &impl Source<i64>,
+    meter: &Meter,
+    memory: &Memory,
+    count: usize,
+) -> bool
+    ensures { IsTrue result → memory.now.block ≡ None }
+{
+    overwrites_pay(execution, spare, meter, count) && !memory.in_block()
+}
 
 /// The integers of a name, if that is what it stands for.
 pub(crate) fn lent<'a>(memory: &'a Memory, name: &Name) -> Option<&'a [i64]>

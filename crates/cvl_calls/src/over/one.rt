@@ -15,11 +15,11 @@ ghost use Rattle.cvl_calls.specs.Steps.{CountsStep, followed};
 ghost use Rattle.cvl_calls.specs.Work.{map_one, scan};
 
 use crate::operands::ints;
-use crate::over::held::{give, is_ints, store, take};
+use crate::over::held::{give, is_ints, may_go_over, store, take};
 use crate::spare::Spare;
 use cvl_text::{Fault, Reply, ScanZ, Z1};
 use scan_kernels::{
-    Execution, Meter, Source, map1_z, map1_z_over, overwrites_pay, scan_whole_z, scan_whole_z_over,
+    Execution, Meter, Source, map1_z, map1_z_over, scan_whole_z, scan_whole_z_over,
 };
 use std::alloc::Global;
 use vector_memory::laws::memories_are_lawful;
@@ -87,7 +87,7 @@ fn goes_over(
     ensures ints { IsTrue result → IsInts memory.now to.now }
     ensures outside { IsTrue result → memory.now.block ≡ None }
 {
-    if !overwrites_pay(execution, spare, meter, count) || memory.in_block() {
+    if !may_go_over(execution, spare, meter, memory, count) {
         return false;
     }
     to == a && is_ints(memory, to)

@@ -16,16 +16,14 @@ ghost use Rattle.cvl_calls.specs.Work.{map_two};
 
 use crate::conditions::seconds;
 use crate::judged::Judged;
-use crate::over::held::{give, lent, store, take};
+use crate::over::held::{give, lent, may_go_over, store, take};
 use crate::shapes::elementwise::map_ints;
 use crate::spare::Spare;
-use cvl_text::{Fault, Reply, Z2};
-use scan_kernels::{
-    Execution, Meter, Source, map2_z, map2_z_over_first, map2_z_over_second, overwrites_pay,
-};
+use cvl_text::{Reply, Z2};
+use scan_kernels::{Execution, Meter, Source, map2_z, map2_z_over_first, map2_z_over_second};
 use std::alloc::Global;
 use vector_memory::laws::memories_are_lawful;
-use vector_memory::{Memory, Name, OutOfMemory, StoreFault, Value};
+use vector_memory::{Memory, Name, OutOfMemory, Value};
 
 /// Whether the operation can be applied to the integers of two names.
 fn can_apply(memory: &Memory, op: Z2, a: &Name, b: &Name) -> bool
@@ -168,7 +166,7 @@ fn goes_over(
     ensures either { IsTrue result → same_name to.now a.now ≡ not (same_name to.now b.now) }
     ensures outside { IsTrue result → memory.now.block ≡ None }
 {
-    if !overwrites_pay(execution, spare, meter, count) || memory.in_block() {
+    if !may_go_over(execution, spare, meter, memory, count) {
         return false;
     }
     let (is_first, is_second) = (to == a, to == b);
