@@ -1,6 +1,6 @@
 /* How fast the library for C is, in the rows of the benchmark in crates/bench: `shared TAB T=threads len=items TAB c TAB calls a second`,
  * where each thread makes the prepared call `x = add_wuz x y` on two names of its own among 64 others; and a million integers set and got
- * beside memcpy: `array TAB row TAB c TAB gigabytes a second`. */
+ * beside memcpy: `array TAB row TAB c TAB gigabytes a second by the least of its rounds TAB and by the middle one`. */
 #define _POSIX_C_SOURCE 200809L
 #include <cvl.h>
 #include <pthread.h>
@@ -94,65 +94,109 @@ static double rate(int threads, size_t items)
     return threads * (double)CALLS / (ended - began);
 }
 
-static double least(double one, double other)
+/* What the rows of a million integers work on. */
+struct arrays {
+    cvl_caller caller;
+    int64_t *from, *to;
+    int64_t *kept[ROUNDS];
+    int round;
+};
+
+static const size_t BYTES = MILLION * sizeof(int64_t);
+
+static void copy_in_use(struct arrays *on)
 {
-    return one < other ? one : other;
+    memcpy(on->to, on->from, BYTES);
+    on->from[0] = on->to[MILLION - 1];
 }
 
-/* A million integers set and got, the least time of each: "get" copies them into an array and "get at" reads them where they lie. Beside
- * memcpy from one array to another, and into memory that is kept for good ("memcpy kept"), as the history keeps what is set. */
+/* Into memory that is kept for good, as the history keeps what is set. */
+static void copy_kept(struct arrays *on)
+{
+    if (!(on->kept[on->round] = malloc(BYTES)))
+        exit(1);
+    memcpy(on->kept[on->round], on->from, BYTES);
+}
+
+static void set_million(struct arrays *on)
+{
+    cvl_answer answer;
+    check(cvl_post_ints(&on->caller, "v", 1, on->from, MILLION));
+    check(cvl_wait(&on->caller, &answer));
+}
+
+static void ask(struct arrays *on)
+{
+    cvl_answer answer;
+    check(cvl_post_get(&on->caller, "v", 1));
+    check(cvl_wait(&on->caller, &answer));
+}
+
+/* Copied into an array. */
+static void get(struct arrays *on)
+{
+    ask(on);
+    if (cvl_ints(&on->caller, 0, on->to, MILLION) != MILLION || on->to[1] != 1)
+        exit(1);
+}
+
+/* Read where they lie. */
+static void get_at(struct arrays *on)
+{
+    const int64_t *there;
+    ask(on);
+    if (cvl_ints_at(&on->caller, 0, &there) != MILLION || there[MILLION - 1] != MILLION - 1)
+        exit(1);
+}
+
+struct row {
+    const char *name;
+    void (*run)(struct arrays *on);
+    double times[ROUNDS];
+};
+
+static int by_time(const void *one, const void *other)
+{
+    double a = *(const double *)one, b = *(const double *)other;
+    return (a > b) - (a < b);
+}
+
+/* Runs these rows in turns, and prints gigabytes a second of each. */
+static void time_rows(struct arrays *on, struct row *rows, size_t count)
+{
+    for (on->round = 0; on->round < ROUNDS; on->round++)
+        for (size_t k = 0; k < count; k++) {
+            double began = seconds();
+            rows[k].run(on);
+            rows[k].times[on->round] = seconds() - began;
+        }
+    for (size_t k = 0; k < count; k++) {
+        qsort(rows[k].times, ROUNDS, sizeof(double), by_time);
+        printf("array\t%s\tc\t%.2f\t%.2f\n", rows[k].name, (double)BYTES / rows[k].times[0] / 1e9, (double)BYTES / rows[k].times[ROUNDS / 2] / 1e9);
+    }
+}
+
+/* A million integers: as many copied into memory that is kept, and set alone, one set behind another; then set and got in turns beside
+ * memcpy from one array to another. */
 static void arrays(void)
 {
-    size_t bytes = MILLION * sizeof(int64_t);
-    int64_t *from = malloc(bytes), *to = malloc(bytes), *all[ROUNDS];
-    const int64_t *there;
-    cvl_caller caller = CVL_CALLER_INIT;
-    cvl_answer answer;
+    struct arrays on = {.caller = CVL_CALLER_INIT, .from = malloc(BYTES), .to = malloc(BYTES)};
+    struct row kept[] = {{.name = "memcpy kept", .run = copy_kept}}, alone[] = {{.name = "set alone", .run = set_million}};
+    struct row turns[] = {{.name = "memcpy", .run = copy_in_use}, {.name = "set", .run = set_million}, {.name = "get", .run = get}, {.name = "get at", .run = get_at}};
     cvl_closed closed;
-    double copied = 1e300, kept = 1e300, set_in = 1e300, got = 1e300, lent = 1e300;
-    if (!from || !to)
+    if (!on.from || !on.to)
         exit(1);
     for (int i = 0; i < MILLION; i++)
-        from[i] = i, to[i] = 0;
-    check(cvl_open(1 << 22, &caller, 1));
-    for (int round = 0; round < ROUNDS; round++) {
-        double began = seconds();
-        memcpy(to, from, bytes);
-        copied = least(copied, seconds() - began);
-        from[0] = to[MILLION - 1];
-        began = seconds();
-        check(cvl_post_ints(&caller, "v", 1, from, MILLION));
-        check(cvl_wait(&caller, &answer));
-        set_in = least(set_in, seconds() - began);
-        began = seconds();
-        check(cvl_post_get(&caller, "v", 1));
-        check(cvl_wait(&caller, &answer));
-        if (cvl_ints(&caller, 0, to, MILLION) != MILLION || to[1] != 1)
-            exit(1);
-        got = least(got, seconds() - began);
-        began = seconds();
-        check(cvl_post_get(&caller, "v", 1));
-        check(cvl_wait(&caller, &answer));
-        if (cvl_ints_at(&caller, 0, &there) != MILLION || there[MILLION - 1] != MILLION - 1)
-            exit(1);
-        lent = least(lent, seconds() - began);
-    }
-    for (int round = 0; round < ROUNDS; round++) {
-        double began = seconds();
-        if (!(all[round] = malloc(bytes)))
-            exit(1);
-        memcpy(all[round], from, bytes);
-        kept = least(kept, seconds() - began);
-    }
-    check(cvl_close(&caller, &closed));
-    const struct { const char *row; double time; } rows[] = {
-        {"memcpy", copied}, {"memcpy kept", kept}, {"set", set_in}, {"get", got}, {"get at", lent}};
-    for (size_t row = 0; row < sizeof rows / sizeof *rows; row++)
-        printf("array\t%s\tc\t%.2f\n", rows[row].row, (double)bytes / rows[row].time / 1e9);
+        on.from[i] = i, on.to[i] = 0;
+    check(cvl_open(1 << 22, &on.caller, 1));
+    time_rows(&on, kept, 1);
+    time_rows(&on, alone, 1);
+    time_rows(&on, turns, sizeof turns / sizeof *turns);
+    check(cvl_close(&on.caller, &closed));
     for (int round = 0; round < ROUNDS; round++)
-        free(all[round]);
-    free(from);
-    free(to);
+        free(on.kept[round]);
+    free(on.from);
+    free(on.to);
 }
 
 int main(void)

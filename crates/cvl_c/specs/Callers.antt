@@ -3,13 +3,18 @@ use Rattle.std.specs.Global.{Box}
 use Rattle.std.specs.Prelude.{◌≡◌, Option, Some, None, List, map}
 use Rattle.cvl_port.specs.declared.port.Port.{Port}
 use Rattle.cvl_c.specs.declared.caller.Caller.{Caller}
+use Rattle.cvl_c.specs.declared.caller.CallerLine.{CallerLine}
 
 -- the port of a caller, if it is open
 abbrev pub port_in : Caller → Option Port
 port_in c = c.handle.port
 
-abbrev pub IsShut : Caller → Type 0
-IsShut c = port_in c ≡ None
+-- the port of the caller on a line, if it is open
+abbrev pub port_on : CallerLine → Option Port
+port_on line = port_in line.caller
+
+abbrev pub IsLineShut : CallerLine → Type 0
+IsLineShut line = port_on line ≡ None
 
 -- A shut caller stays shut, and the answer says that it is. An open one stays open, and this was done to its port.
 abbrev pub CallsPort : {A : Type 0} → A → A → Option Port → Option Port → (Port → Port → Type 0) → Type 0
@@ -23,8 +28,8 @@ AsksPort None Shut Says = Shut
 AsksPort (Some p) Shut Says = Says p
 
 -- these callers are open, with these ports in order
-abbrev pub AreOpen : List Caller → List Port → Type 0
-AreOpen callers ports = map port_in callers ≡ map Some ports
+abbrev pub AreOpen : List CallerLine → List Port → Type 0
+AreOpen callers ports = map port_on callers ≡ map Some ports
 
 abbrev pub port_boxed : Box Port → Port
 port_boxed b = b.value

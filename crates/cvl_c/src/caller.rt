@@ -9,17 +9,35 @@ use std::alloc::Global;
 /// The state of a caller that is open.
 pub(crate) const OPEN: u64 = 0x6376_6c20_6f70_656e;
 
-/// A caller as C has it. Callers lie side by side in a program's array, and each call writes to its own: so each is as long as a line of
-/// memory, and no thread takes the line away from another.
+/// What a call of C reads and writes of a caller: the words in front of its line.
 #[repr(C)]
 pub struct Caller {
     state: u64,
     handle: Handle,
-    apart: [u64; 6],
     ghost tagged: { is_some handle.port ≡ (state == 0x6376_6c20_6f70_656e) },
 }
 
-const _: () = prove!(size_of::<Caller>() == 64);
+/// A caller as C has it. Callers lie side by side in a program's array, and each call writes to its own: so each has a line of memory to
+/// itself, and no thread takes the line away from another.
+#[repr(C)]
+pub struct CallerLine {
+    pub(crate) caller: Caller,
+    pub(crate) apart: [u64; 6],
+}
+
+const _: () = prove!(size_of::<CallerLine>() == 64);
+
+impl CallerLine {
+    /// The line of a caller.
+    pub(crate) fn of(caller: Caller) -> CallerLine
+        ensures { result.caller ≡ caller }
+    {
+        CallerLine {
+            caller,
+            apart: [0; 6],
+        }
+    }
+}
 
 impl Caller {
     /// Whether it is open.
@@ -38,11 +56,7 @@ impl Caller {
         if self.state != OPEN {
             return Err(self);
         }
-        let Caller {
-            state: _,
-            handle,
-            apart: _,
-        } = self;
+        let Caller { state: _, handle } = self;
         Ok(handle.into_box())
     }
 
@@ -53,7 +67,6 @@ impl Caller {
         Caller {
             state: OPEN,
             handle: Handle::of(port),
-            apart: [0; 6],
         }
     }
 
@@ -63,11 +76,7 @@ impl Caller {
         ensures port { result.1 ≡ port.value }
     {
         let handle = Handle::nowhere(nothing, alloc);
-        let caller = Caller {
-            state: 0,
-            handle,
-            apart: [0; 6],
-        };
+        let caller = Caller { state: 0, handle };
         (caller, Box::into_inner(port))
     }
 
@@ -78,7 +87,6 @@ impl Caller {
         Caller {
             state: 0,
             handle: Handle::nowhere(nothing(), alloc),
-            apart: [0; 6],
         }
     }
 
@@ -102,11 +110,7 @@ impl Caller {
     pub(crate) fn let_go(self)
         requires { self.handle.port ≡ None }
     {
-        let Caller {
-            state: _,
-            handle,
-            apart: _,
-        } = self;
+        let Caller { state: _, handle } = self;
         handle.let_go();
     }
 }

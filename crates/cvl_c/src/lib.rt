@@ -18,7 +18,7 @@ mod setting;
 mod statuses;
 
 pub use answer::Answer;
-pub use caller::Caller;
+pub use caller::{Caller, CallerLine};
 pub use closing::Closed;
 pub use handle::Handle;
 pub use serving::Served;

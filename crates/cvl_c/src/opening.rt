@@ -1,9 +1,9 @@
 ghost use Rattle.std.specs.Prelude.{◌≡◌, ◌≤◌, ◌<◌, length, map, true, false, IfSome, IfErr, OnOk, OnErr, All};
 ghost use Rattle.combiner.specs.Making.{IsMadeImpossible};
-ghost use Rattle.cvl_c.specs.Callers.{AreOpen, IsShut, port_in, port_boxed};
+ghost use Rattle.cvl_c.specs.Callers.{AreOpen, IsLineShut, port_boxed, port_on};
 ghost use Rattle.cvl_c.specs.Opening.{AreOpened, IsOpening};
 
-use crate::caller::Caller;
+use crate::caller::{Caller, CallerLine};
 use crate::statuses::{BAD_CALLERS, BAD_ROOM, NO_MEMORY, NOT_SHUT, OK};
 use combiner::MakeFault;
 use core::mem::replace_with;
@@ -22,30 +22,31 @@ fn boxed(alloc: Global, ports: Vec<Port>) -> Option<Vec<Box<Port>>>
 }
 
 /// Whether no caller of these is open.
-fn are_shut(callers: &[Caller]) -> bool
-    ensures shut { result ≡ true → All IsShut callers.now }
-    ensures open { result ≡ false → All IsShut callers.now → ⊥ }
+fn are_shut(callers: &[CallerLine]) -> bool
+    ensures shut { result ≡ true → All IsLineShut callers.now }
+    ensures open { result ≡ false → All IsLineShut callers.now → ⊥ }
 {
-    for caller in callers {
-        if caller.is_open() {
+    for line in callers {
+        if line.caller.is_open() {
             return false;
         }
     }
     true
 }
 
-fn fill(caller: Caller, port: Box<Port>) -> (Caller, ())
-    requires { IsShut caller }
-    ensures { port_in result.0 ≡ Some port.value }
+fn fill(line: CallerLine, port: Box<Port>) -> (CallerLine, ())
+    requires { IsLineShut line }
+    ensures { port_on result.0 ≡ Some port.value }
 {
+    let CallerLine { caller, apart: _ } = line;
     caller.let_go();
-    (Caller::of(port), ())
+    (CallerLine::of(Caller::of(port)), ())
 }
 
 /// Opens as many callers with these ports, the last one first.
-fn fill_all(callers: &mut [Caller], mut ports: Vec<Box<Port>>)
+fn fill_all(callers: &mut [CallerLine], mut ports: Vec<Box<Port>>)
     requires long { length ports.items ≡ length callers.old }
-    requires shut { All IsShut callers.old }
+    requires shut { All IsLineShut callers.old }
     ensures { AreOpen callers.new (map port_boxed ports.items) }
 {
     while let Some(port) = ports.pop() {
@@ -55,8 +56,8 @@ fn fill_all(callers: &mut [Caller], mut ports: Vec<Box<Port>>)
 }
 
 /// Opens these callers, which are shut, on a machine of their own.
-fn open_all(alloc: Global, room: u64, callers: &mut [Caller]) -> Result<(), MakeFault>
-    requires { All IsShut callers.old }
+fn open_all(alloc: Global, room: u64, callers: &mut [CallerLine]) -> Result<(), MakeFault>
+    requires { All IsLineShut callers.old }
     ensures opened { OnOk result (AreOpened room callers.new) }
     ensures fault { IfErr result (IsMadeImpossible (length callers.old) room) }
     ensures same { OnErr result (callers.new ≡ callers.old) }
@@ -71,7 +72,7 @@ fn open_all(alloc: Global, room: u64, callers: &mut [Caller]) -> Result<(), Make
 
 /// Makes a machine with room for so many items, and opens these callers on it, all that it will have.
 #[unsafe(no_mangle)]
-pub extern "C" fn cvl_open(alloc: Global, room: u64, callers: &mut [Caller]) -> i32
+pub extern "C" fn cvl_open(alloc: Global, room: u64, callers: &mut [CallerLine]) -> i32
     ensures { IsOpening result room callers.old callers.new }
 {
     if !are_shut(callers) {

@@ -27,7 +27,7 @@ pub(crate) fn is_owning(call: &Call) -> bool
 }
 
 /// A call that asks for the same, of one with nothing behind a pointer. It takes no memory.
-#[inline(never)]
+#[inline(always)]
 pub(crate) fn copy_flat(call: &Call) -> Call
     requires { is_owning call.now ≡ false }
     ensures { task_of result ≡ task_of call.now }
