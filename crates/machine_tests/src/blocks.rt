@@ -2,6 +2,7 @@
 
 mod bank;
 mod books;
+mod by_policy;
 mod machines;
 mod memories;
 mod refused;

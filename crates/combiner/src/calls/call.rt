@@ -8,7 +8,7 @@ use crate::caller::Caller;
 use crate::calls::wait::FIRST_PAUSE;
 use crate::shared::Shared;
 use cvl_text::{Call, Reply};
-use scan_kernels::Sequential;
+use scan_kernels::{Execution, Sequential};
 use std::alloc::Global;
 use std::sync::Wait;
 use std::thread::Threads;
@@ -39,10 +39,37 @@ impl Shared {
         ensures back { IfErr result (λ refused. refused.0 ≡ call) }
         ensures record_kept { OnErr result (caller.new.own ≡ caller.old.own) }
     {
-        match self.begin(&Sequential, alloc, caller, call) {
+        self.call_by(&Sequential, rt, alloc, caller, call)
+    }
+
+    /// `call`, by an execution policy for the kernels of the calls that it runs: by a runtime with threads those over large vectors go
+    /// by chunks in threads.
+    #[inline(always)]
+    pub fn call_by(
+        &self,
+        execution: &impl Execution,
+        rt: &impl Wait,
+        alloc: Global,
+        caller: &mut Caller,
+        call: Call,
+    ) -> Result<(u64, Reply), (Call, OutOfMemory)>
+        requires machine { caller.old.machine ≡ self.now }
+        requires idle { IsIdle caller.old }
+        ensures machine { caller.new.machine ≡ self.now }
+        ensures number { caller.new.number ≡ caller.old.number }
+        ensures bounds { caller.new.bounds ≡ caller.old.bounds }
+        ensures idle { IsIdle caller.new }
+        ensures later { Begins caller.old.seen caller.new.seen }
+        ensures rests { Rests caller.new }
+        ensures notes { KeepsNotes caller.old caller.new }
+        ensures answered { IfOk result (λ answer. IsAnsweredTo call caller.old caller.new answer.0 answer.1) }
+        ensures back { IfErr result (λ refused. refused.0 ≡ call) }
+        ensures record_kept { OnErr result (caller.new.own ≡ caller.old.own) }
+    {
+        match self.begin(execution, alloc, caller, call) {
             Polled::Answered { place, reply } => Ok((place, reply)),
             Polled::OutOfMemory(call) => Err((call, OutOfMemory)),
-            Polled::Waiting => self.ask(&Sequential, rt, alloc, caller, FIRST_PAUSE),
+            Polled::Waiting => self.ask(execution, rt, alloc, caller, FIRST_PAUSE),
             Polled::Idle => unreachable!(),
             Polled::AnsweredBlock { .. } => unreachable!(),
             Polled::OutOfMemoryBlock(_) => unreachable!(),

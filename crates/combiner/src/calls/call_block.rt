@@ -9,7 +9,7 @@ use crate::caller::Caller;
 use crate::own_block::{run_own_block, take_desk};
 use crate::shared::Shared;
 use cvl_text::{Call, Reply};
-use scan_kernels::Sequential;
+use scan_kernels::{Execution, Sequential};
 use std::alloc::Global;
 use std::sync::Wait;
 use std::thread::Threads;
@@ -42,10 +42,38 @@ impl Shared {
         ensures back { IfErr result (λ refused. refused.0 ≡ calls) }
         ensures record_kept { OnErr result (caller.new.own ≡ caller.old.own) }
     {
+        self.call_block_by(&Sequential, rt, alloc, caller, calls)
+    }
+
+    /// `call_block`, by an execution policy for the kernels of the calls that it runs.
+    #[inline(always)]
+    pub fn call_block_by(
+        &self,
+        execution: &impl Execution,
+        rt: &impl Wait,
+        alloc: Global,
+        caller: &mut Caller,
+        calls: Vec<Call>,
+    ) -> Result<(u64, Vec<Reply>), (Vec<Call>, OutOfMemory)>
+        requires machine { caller.old.machine ≡ self.now }
+        requires idle { IsIdle caller.old }
+        requires few { (1 ≤ length calls.items) × (length calls.items ≤ block_limit) }
+        ensures machine { caller.new.machine ≡ self.now }
+        ensures number { caller.new.number ≡ caller.old.number }
+        ensures bounds { caller.new.bounds ≡ caller.old.bounds }
+        ensures idle { IsIdle caller.new }
+        ensures later { Begins caller.old.seen caller.new.seen }
+        ensures rests { Rests caller.new }
+        ensures notes { KeepsNotes caller.old caller.new }
+        ensures answered { IfOk result (λ answer.
+            IsBlockAnsweredTo calls.items caller.old caller.new answer.0 (map answer_of answer.1.items)) }
+        ensures back { IfErr result (λ refused. refused.0 ≡ calls) }
+        ensures record_kept { OnErr result (caller.new.own ≡ caller.old.own) }
+    {
         let seat = &mut caller.seat;
         let desk = take_desk(&self.slots, rt, seat);
         run_own_block(
-            &Sequential,
+            execution,
             alloc,
             &self.slots,
             seat,

@@ -125,7 +125,31 @@ impl Shared {
         ensures back { IfErr result (λ refused. IsBlockThatWasLeft caller.old refused.0) }
         ensures record_kept { OnErr result (caller.new.own ≡ caller.old.own) }
     {
-        match self.told_at_last(&Sequential, rt, alloc, caller, 0) {
+        self.wait_block_by(&Sequential, rt, alloc, caller)
+    }
+
+    /// `wait_block`, by an execution policy for the kernels of the calls that it serves.
+    pub fn wait_block_by(
+        &self,
+        execution: &impl Execution,
+        rt: &impl Wait,
+        alloc: Global,
+        caller: &mut Caller,
+    ) -> Result<(u64, Vec<Reply>), (Vec<Call>, OutOfMemory)>
+        requires machine { caller.old.machine ≡ self.now }
+        requires left { HasLeftABlock caller.old }
+        ensures machine { caller.new.machine ≡ self.now }
+        ensures number { caller.new.number ≡ caller.old.number }
+        ensures bounds { caller.new.bounds ≡ caller.old.bounds }
+        ensures idle { IsIdle caller.new }
+        ensures later { Begins caller.old.seen caller.new.seen }
+        ensures rests { Rests caller.new }
+        ensures notes { KeepsNotes caller.old caller.new }
+        ensures answered { IfOk result (λ answer. IsBlockAnsweredAtLast caller.old caller.new answer.0 answer.1) }
+        ensures back { IfErr result (λ refused. IsBlockThatWasLeft caller.old refused.0) }
+        ensures record_kept { OnErr result (caller.new.own ≡ caller.old.own) }
+    {
+        match self.told_at_last(execution, rt, alloc, caller, 0) {
             Polled::AnsweredBlock { place, replies } => Ok((place, replies)),
             Polled::OutOfMemoryBlock(calls) => Err((calls, OutOfMemory)),
             Polled::Waiting => unreachable!(),

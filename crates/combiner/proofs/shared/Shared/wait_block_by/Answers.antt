@@ -1,5 +1,5 @@
 use Rattle.combiner.proofs.Turns.{waiting_block_answered, waiting_block_back}
-use Rattle.combiner.proofs.shared.Shared.wait_block.Goals as goal
+use Rattle.combiner.proofs.shared.Shared.wait_block_by.Goals as goal
 
 pub returns-in-AnsweredBlock-clause-number : goal.returns-in-AnsweredBlock-clause-number
 returns-in-AnsweredBlock-clause-number g c = let told = c.in-AnsweredBlock.ensures.told in (waiting_block_answered _ _ _ _ _ told.keeps told.block_answered).0.number

@@ -1,7 +1,7 @@
 use Rattle.std.proofs.lemmas.Result.{IfOk-weaker}
 use Rattle.combiner.proofs.Begun.{begun_answered, begun_knows, begun_left}
 use Rattle.combiner.proofs.Turns.{notes_follow}
-use Rattle.combiner.proofs.shared.Shared.call.Goals as goal
+use Rattle.combiner.proofs.shared.Shared.call_by.Goals as goal
 
 pub ask-requires-clause-left : goal.ask-requires-clause-left
 ask-requires-clause-left g c κs within = begun_left c.args.call c.args.caller.now c.begin.new.caller c.in-Waiting.ensures.begun
