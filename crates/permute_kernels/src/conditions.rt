@@ -3,7 +3,10 @@
 ghost use Rattle.std.specs.Prelude.{◌≡◌, ◌↔◌, length, sum, replicate, false, All, IsTrue, IfOk};
 ghost use Rattle.scan_kernels.specs.Indices.{HoldsEachPlaceOnce, IsPlaceOf, LieWithin, PermuteSegments};
 
-use scan_kernels::{is_place, place_of};
+use scan_kernels::index_tests::{
+    lie_within_by_chunks, permutation_test_size, permutes_by_chunks, places_test_size,
+};
+use scan_kernels::{Execution, Meter, are_places, is_place, place_of};
 use segment_desc::{OutOfMemory, Segd};
 use std::alloc::{AllocError, Global};
 
@@ -88,13 +91,73 @@ fn each_within(index: &[i64], source: &[usize], by: &[usize]) -> bool
     true
 }
 
-/// Whether each index is a place of a list of so many items, as `gather_z` and `gather_b` ask. It takes no memory.
-pub fn are_places(index: &[i64], length: usize) -> bool
+/// `is_permutation`, by chunks where these pay. The meter says how many items a chunk has, and is not raised.
+#[inline(always)]
+pub fn is_permutation_by(
+    execution: &impl Execution,
+    alloc: Global,
+    meter: &Meter,
+    index: &[i64],
+    segments: &Segd,
+) -> Result<bool, OutOfMemory>
+    requires { sum segments.now ≡ length index.now }
+    ensures { IfOk result (λ b. IsTrue b ↔ PermuteSegments segments.now index.now) }
+{
+    match permutation_test_size(execution, meter, index.len()) {
+        Some(size) => Ok(permutes_by_chunks(execution, alloc, index, segments.lengths(), size)?),
+        None => is_permutation(alloc, index, segments),
+    }
+}
+
+/// `is_whole_permutation`, by chunks where these pay. The meter says how many items a chunk has, and is not raised.
+#[inline(always)]
+pub fn is_whole_permutation_by(
+    execution: &impl Execution,
+    alloc: Global,
+    meter: &Meter,
+    index: &[i64],
+) -> Result<bool, OutOfMemory>
+    ensures { IfOk result (λ b. IsTrue b ↔ HoldsEachPlaceOnce index.now) }
+{
+    match permutation_test_size(execution, meter, index.len()) {
+        Some(size) => Ok(permutes_by_chunks(execution, alloc, index, &[index.len()], size)?),
+        None => is_whole_permutation(alloc, index),
+    }
+}
+
+/// `in_range`, by chunks where these pay. The meter says how many items a chunk has, and is not raised.
+#[inline(always)]
+pub fn in_range_by(
+    execution: &impl Execution,
+    meter: &Meter,
+    index: &[i64],
+    source: &Segd,
+    by: &Segd,
+) -> bool
+    requires counts { length source.now ≡ length by.now }
+    requires total { sum by.now ≡ length index.now }
+    ensures { IsTrue result ↔ LieWithin source.now by.now index.now }
+{
+    match places_test_size(execution, meter, index.len()) {
+        Some(size) => {
+            lie_within_by_chunks(execution, index, source.lengths(), by.lengths(), size)
+        }
+        None => in_range(index, source, by),
+    }
+}
+
+/// `are_places`, by chunks where these pay. The meter says how many items a chunk has, and is not raised.
+#[inline(always)]
+pub fn are_places_by(
+    execution: &impl Execution,
+    meter: &Meter,
+    index: &[i64],
+    length: usize,
+) -> bool
     ensures { IsTrue result ↔ All (IsPlaceOf length) index.now }
 {
-    let mut each = true;
-    for held in index {
-        each &= is_place(*held, length);
+    match places_test_size(execution, meter, index.len()) {
+        Some(size) => lie_within_by_chunks(execution, index, &[length], &[index.len()], size),
+        None => are_places(index, length),
     }
-    each
 }

@@ -16,7 +16,10 @@ mod permute;
 mod permute_whole;
 
 pub use back_permute::{back_permute_b, back_permute_z};
-pub use conditions::{are_places, in_range, is_permutation, is_whole_permutation};
+pub use conditions::{
+    are_places_by, in_range, in_range_by, is_permutation, is_permutation_by, is_whole_permutation,
+    is_whole_permutation_by,
+};
 pub use gather::{gather_b, gather_z};
 pub use joined::back_permute::BackPermute;
 pub use joined::gather::Gather;
@@ -27,3 +30,4 @@ pub use joined::permute_whole::PermuteWhole;
 pub use pack::{pack_b, pack_z, packed_lengths};
 pub use permute::{permute_b, permute_z};
 pub use permute_whole::{permute_whole_b, permute_whole_z};
+pub use scan_kernels::are_places;

@@ -1,7 +1,9 @@
 -- How often places stand in an index: `each_inside` (an index that holds each of its places once holds nothing else),
--- `held_apart` (and none of them twice), `all_counted` (what holds of as many items as there are holds of all).
-use Rattle.std.proofs.Common.{◌≡◌, ℕ, zero, suc, ◌+◌, ◌<◌, ◌≤◌, List, [], ◌∷◌, length, take, get_or, ℤ, pos, negsuc, Bool, true, false, cond, ltb, refl, ap, sym, arith, All, add-one, count_by}
+-- `held_apart` (and none of them twice), `all_counted` (what holds of as many items as there are holds of all), `held_once` (an
+-- index that holds each of its places holds each once).
+use Rattle.std.proofs.Common.{◌≡◌, ℕ, zero, suc, ◌+◌, ◌<◌, ◌≤◌, List, [], ◌∷◌, length, take, get_or, ℤ, pos, negsuc, Bool, true, false, cond, ltb, refl, ap, sym, subst, arith, All, add-one, count_by, inl, inr}
 use Rattle.std.specs.Ordering.{int_eq}
+use Rattle.std.proofs.lemmas.Bool.{cases_eq}
 use Rattle.std.proofs.lemmas.Bool.Decides.{nat_tests}
 use Rattle.std.proofs.lemmas.List.{take-take}
 use Rattle.std.proofs.lemmas.List.Elements.{All-cons, All-nil, All-weaker}
@@ -88,3 +90,30 @@ module _ (index : List ℤ) (p : ℕ) where
       let twice = held_twice i lt here (met_before k i before lt there) in
       let one = once p place in
       absurd (omega arith)
+
+-- places that are each held at least once take as many items
+count_held : (n : ℕ) (zs : List ℤ) → ((p : ℕ) → p < n → 1 ≤ times_held p zs) → n ≤ count_by (inside n) zs
+count_held zero zs h = omega arith
+count_held (suc n) zs h =
+    let before = count_held n zs (λ p lt. h p (omega arith)) in
+    rw (sym (add-one n)) (omega (arith, before, count_inside_more n zs, h n (omega arith)))
+
+-- and one that is held more often takes more
+count_held_more : (n q : ℕ) (zs : List ℤ) → ((p : ℕ) → p < n → 1 ≤ times_held p zs) → q < n → n + times_held q zs ≤ count_by (inside n) zs + 1
+count_held_more zero q zs h lt = absurd (omega arith)
+count_held_more (suc n) q zs h lt =
+    let earlier : (p : ℕ) → p < n → 1 ≤ times_held p zs = λ p below. h p (omega arith) in
+    let here = count_inside_more n zs in
+    let next : (n + 1) + times_held q zs ≤ count_by (inside (n + 1)) zs + 1 = elim (cases_eq q n) [
+      | inl e ↦ let same = ap (λ k. times_held k zs) e in omega (arith, count_held n zs earlier)
+      | inr ne ↦ omega (arith, count_held_more n q zs earlier (omega (arith, ne)), h n (omega arith))
+    ] in
+    subst (λ k. k + times_held q zs ≤ count_by (inside k) zs + 1) (add-one n) next
+
+-- an index that holds each of its places holds each once
+pub held_once : (index : List ℤ) → ((p : ℕ) → p < length index → 1 ≤ times_held p index) → HoldsEachPlaceOnce index
+held_once index h p lt =
+    let few = count_by-le-length (inside (length index)) index in
+    let more = count_held_more (length index) p index h lt in
+    let some = h p lt in
+    omega arith

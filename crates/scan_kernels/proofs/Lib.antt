@@ -8,6 +8,7 @@ pub mod IntegerLaws
 pub mod JoinedPairs
 pub mod Joining
 pub mod Mapped
+pub mod MarkedPlaces
 pub mod NextSegment
 pub mod OneItem
 pub mod PackedChunks
@@ -15,6 +16,7 @@ pub mod PackedLists
 pub mod Packing
 pub mod Paired
 pub mod PartMoves
+pub mod PlaceTests
 pub mod Placed
 pub mod Places
 pub mod ReducedChunks

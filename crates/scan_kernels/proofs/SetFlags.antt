@@ -1,10 +1,12 @@
 -- How many flags are set in segments: `numbers_long` (one number for each), `numbers_set-part` (of segments in a row),
 -- `numbers_are` (as integers and as numbers), `sum-each_number` (all together), `number_set-take` (of the
--- first flags), `numbers_set-take_more` (of one more segment).
-use Rattle.std.proofs.Common.{◌≡◌, ℕ, zero, suc, ◌+◌, ◌<◌, List, [], ◌∷◌, ◌++◌, length, take, drop, map, refl, sym, ap, ◌∙◌, get_or, sum, pos, Bool, cond, unsigned_abs, arith}
+-- first flags), `numbers_set-take_more` (of one more segment). `all_set_number`: whether all are set.
+use Rattle.std.proofs.Common.{◌≡◌, ℕ, zero, suc, ◌+◌, ◌<◌, List, [], ◌∷◌, ◌++◌, length, take, drop, map, refl, sym, ap, ◌∙◌, get_or, sum, pos, Bool, true, false, cond, eqb, unsigned_abs, arith}
 use Rattle.std.proofs.lemmas.List.{drop-drop, length-drop, length-map, map-append, take-append-drop}
-use Rattle.std.proofs.lemmas.List.Sums.{sum_by-append, sum_by-cons}
+use Rattle.std.proofs.lemmas.Bool.Decides.{nat_tests}
+use Rattle.std.proofs.lemmas.List.Sums.{count_by-le-length, sum_by-append, sum_by-cons}
 use Rattle.segment_desc.specs.Cut.{cut}
+use Rattle.scan_kernels.specs.Marked.{all_set}
 use Rattle.scan_kernels.specs.Packed.{each_number, number_set, numbers_set}
 use Rattle.scan_kernels.proofs.CutLists.{cut-take_more}
 use Rattle.scan_kernels.proofs.Segments.{length_cut}
@@ -50,3 +52,15 @@ pub numbers_set-take_more : (ls : List ℕ) (i : ℕ) (flags : List Bool) → i 
 numbers_set-take_more ls i flags h =
     let next = take (get_or ls i 0) (drop (sum (take i ls)) flags) in
     ap (map (λ s. pos (number_set s))) (cut-take_more ls i flags h) ∙ map-append (λ s. pos (number_set s)) (cut (take i ls) flags) (next ∷ [])
+
+-- as many flags are set as there are where all are
+pub all_set_number : (flags : List Bool) → eqb (number_set flags) (length flags) ≡ all_set flags
+all_set_number [] = refl
+all_set_number (true ∷ flags) =
+    let more = sum_by-cons (λ b. cond b 1 0) true flags in
+    let rest = all_set_number flags in
+    grind (arith, nat_tests)
+all_set_number (false ∷ flags) =
+    let more = sum_by-cons (λ b. cond b 1 0) false flags in
+    let few = count_by-le-length (λ b. b) flags in
+    grind (arith, nat_tests)

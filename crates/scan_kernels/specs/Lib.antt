@@ -5,6 +5,7 @@ pub mod Gathered
 pub mod Indexed
 pub mod Indices
 pub mod Lists
+pub mod Marked
 pub mod Metering
 pub mod Packed
 pub mod Pairs

@@ -1,5 +1,5 @@
 -- What stands at each place of a list that a kernel makes, and what its operands must meet.
-use Rattle.std.specs.Prelude.{◌≡◌, ◌≤◌, ℤ, Bool, List, length, map, replicate, sum, All}
+use Rattle.std.specs.Prelude.{◌≡◌, ℕ, ◌*◌, ◌<◌, ◌≤◌, ℤ, Bool, List, length, map, replicate, sum, All}
 use Rattle.segment_desc.specs.Lengths.{IsWithinLimits, most}
 use Rattle.item_operations.specs.BooleanOps.{alter_b, apply_b}
 use Rattle.item_operations.specs.BooleanScans.{combine_b, unit_b}
@@ -11,6 +11,7 @@ use Rattle.scan_kernels.specs.Elementwise.{as_number, is_true, item_by_item, sel
 use Rattle.scan_kernels.specs.Gathered.{gathered, segmented_gather}
 use Rattle.scan_kernels.specs.Indexed.{indexed, segmented_index}
 use Rattle.scan_kernels.specs.Indices.{HoldsEachPlaceOnce, IsPlaceOf, LieWithin, PermuteSegments}
+use Rattle.scan_kernels.specs.Marked.{chunks_set, each_within, segmented_marks}
 use Rattle.scan_kernels.specs.Packed.{each_number, number_set, numbers_set, packed}
 use Rattle.scan_kernels.specs.Permuted.{permuted, segmented_permute}
 use Rattle.scan_kernels.specs.Segmented.{segmented_reduce, segmented_scan}
@@ -76,6 +77,8 @@ bools_of (bools.Distributed l) = distributed l.lengths.now l.values.now
 bools_of (bools.GatheredSegments l) = segmented_gather l.source.now l.items.now l.by.now l.index.now
 bools_of (bools.PermutedSegments l) = segmented_permute l.lengths.now l.index.now l.items.now
 bools_of (bools.Packed l) = packed l.flags.now l.items.now
+bools_of (bools.Marked l) = segmented_marks l.lengths.now l.index.now
+bools_of (bools.ChunksWithin l) = chunks_set l.count l.size (each_within l.source.now l.by.now l.index.now)
 
 -- their operands are of one length; segments have all the items
 abbrev pub FitBools : BoolRow → Type 0
@@ -94,3 +97,5 @@ FitBools (bools.Distributed l) = (length l.lengths.now ≡ length l.values.now) 
 FitBools (bools.GatheredSegments l) = (sum l.source.now ≡ length l.items.now) × (sum l.by.now ≡ length l.index.now) × (length l.source.now ≡ length l.by.now) × LieWithin l.source.now l.by.now l.index.now
 FitBools (bools.PermutedSegments l) = (length l.index.now ≡ length l.items.now) × (sum l.lengths.now ≡ length l.index.now) × PermuteSegments l.lengths.now l.index.now
 FitBools (bools.Packed l) = (length l.flags.now ≡ length l.items.now) × (sum l.lengths.now ≡ length l.flags.now) × (l.numbers.now ≡ each_number l.lengths.now l.flags.now) × (l.total ≡ number_set l.flags.now)
+FitBools (bools.Marked l) = sum l.lengths.now ≡ length l.index.now
+FitBools (bools.ChunksWithin l) = (length l.source.now ≡ length l.by.now) × (sum l.by.now ≡ length l.index.now) × (0 < l.size) × ((k : ℕ) → k < l.count → k * l.size < length l.index.now)

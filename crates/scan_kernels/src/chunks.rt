@@ -201,6 +201,38 @@ pub fn pack_size(execution: &impl Execution, meter: &Meter, count: usize) -> Opt
     few_size(execution, meter, count, count >= PACKS_PAY)
 }
 
+/// From how many items on it repays to start threads that each go through a whole index and mark what falls into their part.
+const PERMUTATION_TESTS_PAY: usize = 262_144;
+
+/// The size of the chunks in which so many indices are tested for a permutation, if it goes by chunks. There are few, since each
+/// goes through the whole index.
+#[inline(always)]
+pub fn permutation_test_size(
+    execution: &impl Execution,
+    meter: &Meter,
+    count: usize,
+) -> Option<usize>
+    ensures size { IfSome result (λ size. 0 < size) }
+    ensures heeded { HeedsChunk meter.now count result }
+    ensures few { IfSome result (λ size. count ≤ MOST_CHUNKS * size) }
+{
+    few_size(execution, meter, count, count >= PERMUTATION_TESTS_PAY)
+}
+
+/// From how many items on it repays to start threads that read an index from one end to the other.
+const PLACES_TESTS_PAY: usize = 1_000_000;
+
+/// The size of the chunks in which so many indices are tested for places, if it goes by chunks. There are few, since what is known
+/// of each lies on the stack.
+#[inline(always)]
+pub fn places_test_size(execution: &impl Execution, meter: &Meter, count: usize) -> Option<usize>
+    ensures size { IfSome result (λ size. 0 < size) }
+    ensures heeded { HeedsChunk meter.now count result }
+    ensures few { IfSome result (λ size. count ≤ MOST_CHUNKS * size) }
+{
+    few_size(execution, meter, count, count >= PLACES_TESTS_PAY)
+}
+
 /// The integers that a kernel makes item by item, in chunks of a size.
 pub fn ints_by_chunks(
     execution: &impl Execution,

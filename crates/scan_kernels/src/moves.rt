@@ -69,7 +69,7 @@ impl<T: Copy> Permuted<'_, T> {
 
 /// How far a place lies behind the start of a part. One that lies before it is further behind than any part is long.
 #[inline(always)]
-fn behind(place: usize, start: usize) -> usize
+pub(crate) fn behind(place: usize, start: usize) -> usize
     ensures later { start ≤ place → start + result ≡ place }
     ensures before { place < start → 2 ^ 64 ≤ start + result }
 {

@@ -6,11 +6,13 @@ ghost use Rattle.scan_kernels.specs.Lists.{FitBools, FitInts, bools_of, ints_of}
 
 use crate::carries::CarriedOver;
 use crate::choices::{by_b1, by_b2, by_comparison, by_name, by_z1, by_z2};
+use crate::chunks_within::ChunksWithin;
 use crate::fills::{Repeated, Rising};
 use crate::fills_by_segments::{Distributed, RisingSegments};
 use crate::lists::{
     AlteredBools, AlteredInts, AppliedBools, AppliedInts, Compared, Numbers, Selected, Truths,
 };
+use crate::marks::Marked;
 use crate::moves::{Gathered, Permuted};
 use crate::moves_by_segments::{GatheredSegments, PermutedSegments};
 use crate::packs_by_chunks::Packed;
@@ -142,6 +144,8 @@ pub enum BoolRow<'a> {
     GatheredSegments(GatheredSegments<'a, bool>),
     PermutedSegments(PermutedSegments<'a, bool>),
     Packed(Packed<'a, bool>),
+    Marked(Marked<'a>),
+    ChunksWithin(ChunksWithin<'a>),
 }
 
 /// How many truth values there are.
@@ -166,6 +170,8 @@ pub fn count_bools(row: BoolRow<'_>) -> usize
         BoolRow::GatheredSegments(list) => list.count(),
         BoolRow::PermutedSegments(list) => list.count(),
         BoolRow::Packed(list) => list.count(),
+        BoolRow::Marked(list) => list.count(),
+        BoolRow::ChunksWithin(list) => list.count(),
     }
 }
 
@@ -193,6 +199,8 @@ pub fn write_bools(row: BoolRow<'_>, start: usize, part: &mut [bool])
         BoolRow::GatheredSegments(list) => write_segments(&list, start, part),
         BoolRow::PermutedSegments(list) => write_segments(&list, start, part),
         BoolRow::Packed(list) => write_segments(&list, start, part),
+        BoolRow::Marked(list) => write_segments(&list, start, part),
+        BoolRow::ChunksWithin(list) => write_from(&list, start, part),
     }
 }
 

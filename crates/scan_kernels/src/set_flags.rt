@@ -3,6 +3,7 @@
 ghost use Rattle.std.specs.Prelude.{◌≡◌, ◌+◌, ◌<◌, ◌≤◌, ◌^◌, length, take, drop, sum, IfOk};
 ghost use Rattle.segment_desc.specs.Appended.{IsExact};
 ghost use Rattle.scan_kernels.specs.Lists.{ints_of};
+ghost use Rattle.scan_kernels.specs.Marked.{all_set};
 ghost use Rattle.scan_kernels.specs.Packed.{number_set, numbers_set};
 
 use crate::reductions::total;
@@ -84,6 +85,14 @@ pub(crate) fn number_set(flags: &[bool]) -> usize
         rest = later;
     }
     number + usize::from(number_of_block(rest))
+}
+
+/// Whether all flags are set.
+#[tactic(auto, using(crate::proofs::SetFlags::all_set_number))]
+pub(crate) fn all_set(flags: &[bool]) -> bool
+    ensures { result ≡ all_set flags.now }
+{
+    number_set(flags) == flags.len()
 }
 
 #[inline(always)]

@@ -2,7 +2,7 @@ use Rattle.std.proofs.Common.{rules, ◌≡◌, pos, get_or, w64, to_z, of_z}
 use Rattle.std.proofs.lemmas.Int.{ints}
 use Rattle.scan_kernels.proofs.Tested.{each_more, each_all}
 use Rattle.scan_kernels.specs.Indices.{IsPlaceOf}
-use Rattle.permute_kernels.proofs.conditions.are_places.Goals as goal
+use Rattle.scan_kernels.proofs.place.are_places.Goals as goal
 
 pub loop-held-preserved : goal.loop-held-preserved
 loop-held-preserved c =
