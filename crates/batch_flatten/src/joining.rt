@@ -22,7 +22,7 @@ ghost use Rattle.batch_flatten.specs.Joining.{ArePrepared, AreWords, ClosesOnly,
 use crate::plan::BATCH_LIMIT;
 use crate::turn::Turn;
 use call_history::{Outcome, Work};
-use cvl_calls::{Judged, Product, Stop, judge, run_joined, runs_kernel};
+use cvl_calls::{Judged, Product, Stop, judge_by, run_joined, runs_kernel};
 use cvl_text::Word;
 use scan_kernels::{Execution, Meter};
 use std::alloc::Global;
@@ -87,7 +87,9 @@ fn is_leader(words: &[Word], turns: &[Turn; BATCH_LIMIT], position: usize) -> bo
 
 /// Judges a single call that is back.
 fn judge_back<'a>(
+    execution: &impl Execution,
     alloc: Global,
+    meter: &Meter,
     memory: &'a Memory,
     outcome: &'a Outcome,
 ) -> Result<Judged<'a>, Stop>
@@ -95,7 +97,7 @@ fn judge_back<'a>(
     ensures alike { (word : Word) → IsOfWord word outcome.now → IfOk result (λ judged. word_of judged ≡ word) }
 {
     match outcome {
-        Outcome::Refused(call) => judge(alloc, memory, call),
+        Outcome::Refused(call) => judge_by(execution, alloc, meter, memory, call),
         Outcome::Answered { .. } => Err(Stop::OutOfMemory),
         Outcome::AnsweredBlock { .. } => Err(Stop::OutOfMemory),
         Outcome::RefusedBlock(_) => Err(Stop::OutOfMemory),
@@ -119,7 +121,9 @@ fn empty_group<'a>(alloc: Global, count: usize) -> Group<'a>
 /// Judges the call at a position and puts it to the group, or notes its fault. It is to run by itself, unless the group is
 /// joined.
 fn add<'a>(
+    execution: &impl Execution,
     alloc: Global,
+    meter: &Meter,
     memory: &'a Memory,
     outcome: &'a Outcome,
     position: usize,
@@ -136,7 +140,7 @@ fn add<'a>(
     ensures below { AreBelow BATCH_LIMIT group.old.positions → AreBelow BATCH_LIMIT group.new.positions }
     ensures grows { vec_len group.new.judged ≤ vec_len group.old.judged + 1 }
 {
-    match judge_back(alloc, memory, outcome) {
+    match judge_back(execution, alloc, meter, memory, outcome) {
         Ok(judged) => {
             turns[position] = Turn::Single;
             let count = group.judged.len();
@@ -157,7 +161,9 @@ fn add<'a>(
 
 /// Judges the call at a position, if it is open and has the word of the group.
 fn visit<'a>(
+    execution: &impl Execution,
     alloc: Global,
+    meter: &Meter,
     memory: &'a Memory,
     places: &[u8],
     words: &[Word],
@@ -188,12 +194,16 @@ fn visit<'a>(
         return;
     }
     let outcome = &outcomes[usize::from(places[position])];
-    add(alloc, memory, outcome, position, turns, group);
+    add(
+        execution, alloc, meter, memory, outcome, position, turns, group,
+    );
 }
 
 /// Judges the open calls of one word, from a position on, and notes their faults.
 fn gather<'a>(
+    execution: &impl Execution,
     alloc: Global,
+    meter: &Meter,
     memory: &'a Memory,
     places: &[u8],
     words: &[Word],
@@ -220,7 +230,8 @@ fn gather<'a>(
     let mut group = empty_group(alloc, places.len() - first);
     for position in first..places.len() {
         visit(
-            alloc, memory, places, words, outcomes, position, word, turns, &mut group,
+            execution, alloc, meter, memory, places, words, outcomes, position, word, turns,
+            &mut group,
         );
     }
     group
@@ -321,7 +332,9 @@ fn lead(
     ensures closed { IsClosed words.now (word_at words.now first) turns.new first (length words.now) }
     ensures counted { (meter.new ≡ meter.old) ⊎ (meter.new ≡ raised meter.old) }
 {
-    let group = gather(alloc, memory, places, words, outcomes, first, turns);
+    let group = gather(
+        execution, alloc, meter, memory, places, words, outcomes, first, turns,
+    );
     if group.lacks || group.judged.is_empty() {
         return;
     }

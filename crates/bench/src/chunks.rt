@@ -1,9 +1,11 @@
-//! The rows of kernels in chunks: each kernel into fresh memory and over a vector that was kept, in one thread and by a runtime
-//! with threads. The ways take turns, and of each the least time counts.
+//! The rows of kernels in chunks: each kernel into fresh memory and over a vector that was kept, and each test of an index, in one
+//! thread and by a runtime with threads. The ways take turns, and of each the least time counts.
 
 use crate::inputs::Inputs;
 use crate::runs::Failure;
-use permute_kernels::{are_places, gather_z, pack_z};
+use permute_kernels::{
+    are_places_by, gather_z, in_range_by, is_permutation_by, is_whole_permutation_by, pack_z,
+};
 use scan_kernels::{
     Execution, Kept, Meter, ScanZ, Sequential, Z2, distribute_z, index_whole, map2_z,
     reduce_whole_z, reduce_z, scan_whole_z, scan_z, select_z,
@@ -21,7 +23,7 @@ const SIZES: [u32; 6] = [65_536, 131_072, 262_144, 524_288, 1_000_000, 16_000_00
 /// How many times each way is timed.
 const REPEATS: u32 = 30;
 
-/// A kernel over one of the inputs.
+/// A kernel over one of the inputs, or a test of an index.
 #[derive(Clone, Copy)]
 enum Row {
     Add,
@@ -34,10 +36,14 @@ enum Row {
     Pack,
     Distribute,
     Index,
+    Permutation,
+    SegmentedPermutation,
+    Places,
+    SegmentedPlaces,
 }
 
 /// In the order of the rows.
-const ROWS: [Row; 10] = [
+const ROWS: [Row; 14] = [
     Row::Add,
     Row::Select,
     Row::Scan,
@@ -48,6 +54,10 @@ const ROWS: [Row; 10] = [
     Row::Pack,
     Row::Distribute,
     Row::Index,
+    Row::Permutation,
+    Row::SegmentedPermutation,
+    Row::Places,
+    Row::SegmentedPlaces,
 ];
 
 impl Row {
@@ -63,6 +73,20 @@ impl Row {
             Row::Pack => "pack",
             Row::Distribute => "distribute",
             Row::Index => "index",
+            Row::Permutation => "permutation",
+            Row::SegmentedPermutation => "segpermutation",
+            Row::Places => "places",
+            Row::SegmentedPlaces => "segplaces",
+        }
+    }
+
+    /// Where it puts what it makes; a test makes nothing, and is timed once.
+    fn memory(self, fresh: bool) -> Option<&'static str> {
+        match self {
+            Row::Permutation | Row::SegmentedPermutation | Row::Places | Row::SegmentedPlaces => {
+                if fresh { None } else { Some("test") }
+            }
+            _ => Some(if fresh { "fresh" } else { "kept" }),
         }
     }
 
@@ -92,6 +116,31 @@ impl Row {
             Row::Pack => pack(execution, meter, items, flags, kept),
             Row::Distribute => distribute(execution, meter, items, &inputs.mixed, kept),
             Row::Index => index(execution, meter, items.len(), kept),
+            Row::Permutation => {
+                let alloc = *kept.allocator();
+                passed(
+                    is_whole_permutation_by(execution, alloc, meter, &inputs.index)?,
+                    kept,
+                )
+            }
+            Row::SegmentedPermutation => permutes(
+                execution,
+                meter,
+                &inputs.inner,
+                &inputs.mixed,
+                kept,
+            ),
+            Row::Places => passed(
+                are_places_by(execution, meter, &inputs.index, items.len()),
+                kept,
+            ),
+            Row::SegmentedPlaces => lie_within(
+                execution,
+                meter,
+                &inputs.inner,
+                &inputs.mixed,
+                kept,
+            ),
         }
     }
 }
@@ -171,7 +220,7 @@ fn gather(
     index: &[i64],
     kept: Vec<i64>,
 ) -> Result<Vec<i64>, Failure> {
-    if !are_places(index, items.len()) {
+    if !are_places_by(execution, meter, index, items.len()) {
         return Err(Failure::Uneven);
     }
     Ok(gather_z(execution, Kept::new(kept), meter, items, index)?)
@@ -214,6 +263,48 @@ fn index(
         return Err(Failure::Uneven);
     }
     Ok(index_whole(execution, Kept::new(kept), meter, 3, 5, count)?)
+}
+
+// A test that fails is no row.
+fn passed(holds: bool, kept: Vec<i64>) -> Result<Vec<i64>, Failure> {
+    if holds {
+        Ok(kept)
+    } else {
+        Err(Failure::Uneven)
+    }
+}
+
+fn permutes(
+    execution: &impl Execution,
+    meter: &Meter,
+    index: &[i64],
+    segments: &Segd,
+    kept: Vec<i64>,
+) -> Result<Vec<i64>, Failure> {
+    if segments.total() != index.len() {
+        return Err(Failure::Uneven);
+    }
+    let alloc = *kept.allocator();
+    passed(
+        is_permutation_by(execution, alloc, meter, index, segments)?,
+        kept,
+    )
+}
+
+fn lie_within(
+    execution: &impl Execution,
+    meter: &Meter,
+    index: &[i64],
+    segments: &Segd,
+    kept: Vec<i64>,
+) -> Result<Vec<i64>, Failure> {
+    if segments.total() != index.len() {
+        return Err(Failure::Uneven);
+    }
+    passed(
+        in_range_by(execution, meter, index, segments, segments),
+        kept,
+    )
 }
 
 /// The time of one run, in nanoseconds. A fresh result is one for which nothing is kept.
@@ -261,8 +352,10 @@ pub fn rows<R: Alloc<A = Global> + Clock + Print + Threads + Execution<Shared = 
         let inputs = Inputs::new(rt.alloc(), size)?;
         for row in &ROWS {
             for fresh in [false, true] {
+                let Some(memory) = row.memory(fresh) else {
+                    continue;
+                };
                 let (alone, threads) = least(rt, *row, &inputs, fresh)?;
-                let memory = if fresh { "fresh" } else { "kept" };
                 let name = row.name();
                 println!(rt; "chunks\t{name}/{memory}/{size}\tone thread\t{alone}")?;
                 println!(rt; "chunks\t{name}/{memory}/{size}\tthreads\t{threads}")?;

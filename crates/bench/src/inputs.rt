@@ -18,6 +18,8 @@ pub struct Inputs {
     pub single: Segd,
     /// The places of all items in a random order.
     pub index: Vec<i64>,
+    /// In each of the mixed segments its places in order, turned by a random number.
+    pub inner: Vec<i64>,
     /// Random flags, and flags that are all set or all unset.
     pub flags: Vec<bool>,
     pub all: Vec<bool>,
@@ -64,6 +66,18 @@ fn shuffled(alloc: Global, random: &mut SplitMix64, size: u32) -> Result<Vec<i64
     Ok(places)
 }
 
+// The places of each segment in order, turned by a random number of places.
+fn turned(alloc: Global, random: &mut SplitMix64, segments: &Segd) -> Result<Vec<i64>, AllocError> {
+    let mut places = Vec::with_capacity(alloc, segments.total())?;
+    for &length in segments.lengths() {
+        let by = random.next_u64() % (length as u64).max(1);
+        for place in 0..length as u64 {
+            places.push(((place + by) % length as u64).cast_signed())?;
+        }
+    }
+    Ok(places)
+}
+
 fn flags(alloc: Global, random: &mut SplitMix64, size: u32) -> Result<Vec<bool>, AllocError> {
     let mut flags = Vec::with_capacity(alloc, size as usize)?;
     for _ in 0..size {
@@ -76,11 +90,16 @@ impl Inputs {
     /// The inputs of `size` items.
     pub fn new(alloc: Global, size: u32) -> Result<Inputs, AllocError> {
         let mut random = SplitMix64::seed_from_u64(u64::from(size));
+        let left = numbers(alloc, &mut random, size)?;
+        let right = numbers(alloc, &mut random, size)?;
+        let mixed = segments(alloc, &mut random, size, 100)?;
+        let mut turns = SplitMix64::seed_from_u64(u64::from(size));
         Ok(Inputs {
-            left: numbers(alloc, &mut random, size)?,
-            right: numbers(alloc, &mut random, size)?,
+            left,
+            right,
             whole: Segd::from_lengths(alloc, &[i64::from(size)]).map_err(|_fault| AllocError)?,
-            mixed: segments(alloc, &mut random, size, 100)?,
+            inner: turned(alloc, &mut turns, &mixed)?,
+            mixed,
             single: segments(alloc, &mut random, size, 1)?,
             index: shuffled(alloc, &mut random, size)?,
             flags: flags(alloc, &mut random, size)?,

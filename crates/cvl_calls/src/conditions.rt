@@ -10,8 +10,8 @@ ghost use Rattle.cvl_calls.specs.Conditions.{has_all, has_each, holds_each_place
 
 use crate::stop::Stop;
 use cvl_text::{Fault, Z2};
-use permute_kernels::{are_places, in_range, is_permutation, is_whole_permutation};
-use scan_kernels::{divisors_ok, shifts_ok};
+use permute_kernels::{are_places_by, in_range_by, is_permutation_by, is_whole_permutation_by};
+use scan_kernels::{Execution, Meter, divisors_ok, shifts_ok};
 use segment_desc::Segd;
 use std::alloc::Global;
 
@@ -95,12 +95,18 @@ fn shifts(ys: &[i64]) -> Result<(), Fault>
 }
 
 /// The index holds each place of each segment once.
-pub(crate) fn permutes(alloc: Global, places: &[i64], segments: &Segd) -> Result<(), Stop>
+pub(crate) fn permutes(
+    execution: &impl Execution,
+    alloc: Global,
+    meter: &Meter,
+    places: &[i64],
+    segments: &Segd,
+) -> Result<(), Stop>
     requires { sum segments.now ≡ length places.now }
     ensures fault { GivesBy true (λ u. u) result (check (permutes segments.now places.now) Fault.BadIndex) }
     ensures holds { OnOk result (PermuteSegments segments.now places.now) }
 {
-    let each = is_permutation(alloc, places, segments)?;
+    let each = is_permutation_by(execution, alloc, meter, places, segments)?;
     if each {
         Ok(())
     } else {
@@ -109,11 +115,16 @@ pub(crate) fn permutes(alloc: Global, places: &[i64], segments: &Segd) -> Result
 }
 
 /// The index holds each of its own places once.
-pub(crate) fn permutes_whole(alloc: Global, places: &[i64]) -> Result<(), Stop>
+pub(crate) fn permutes_whole(
+    execution: &impl Execution,
+    alloc: Global,
+    meter: &Meter,
+    places: &[i64],
+) -> Result<(), Stop>
     ensures fault { GivesBy true (λ u. u) result (check (holds_each_place places.now) Fault.BadIndex) }
     ensures holds { OnOk result (HoldsEachPlaceOnce places.now) }
 {
-    let each = is_whole_permutation(alloc, places)?;
+    let each = is_whole_permutation_by(execution, alloc, meter, places)?;
     if each {
         Ok(())
     } else {
@@ -122,11 +133,16 @@ pub(crate) fn permutes_whole(alloc: Global, places: &[i64]) -> Result<(), Stop>
 }
 
 /// The index holds places of a list of so many items.
-pub(crate) fn within(places: &[i64], items: usize) -> Result<(), Fault>
+pub(crate) fn within(
+    execution: &impl Execution,
+    meter: &Meter,
+    places: &[i64],
+    items: usize,
+) -> Result<(), Fault>
     ensures fault { result ≡ check (list_all (is_place items) places.now) Fault.BadIndex }
     ensures holds { OnOk result (All (IsPlaceOf items) places.now) }
 {
-    if are_places(places, items) {
+    if are_places_by(execution, meter, places, items) {
         Ok(())
     } else {
         Err(Fault::BadIndex)
@@ -134,13 +150,19 @@ pub(crate) fn within(places: &[i64], items: usize) -> Result<(), Fault>
 }
 
 /// Each segment of the index holds places of the segment of the source that has its number.
-pub(crate) fn lies_within(places: &[i64], source: &Segd, by: &Segd) -> Result<(), Fault>
+pub(crate) fn lies_within(
+    execution: &impl Execution,
+    meter: &Meter,
+    places: &[i64],
+    source: &Segd,
+    by: &Segd,
+) -> Result<(), Fault>
     requires counts { length source.now ≡ length by.now }
     requires total { sum by.now ≡ length places.now }
     ensures fault { result ≡ check (lies_within source.now by.now places.now) Fault.BadIndex }
     ensures holds { OnOk result (LieWithin source.now by.now places.now) }
 {
-    if in_range(places, source, by) {
+    if in_range_by(execution, meter, places, source, by) {
         Ok(())
     } else {
         Err(Fault::BadIndex)

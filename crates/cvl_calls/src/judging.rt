@@ -18,6 +18,7 @@ use crate::shapes::spreads::*;
 use crate::shapes::values::*;
 use crate::stop::Stop;
 use cvl_text::{Call, Fault, Kind};
+use scan_kernels::{Execution, Meter, Sequential};
 use segment_desc::OutOfMemory;
 use std::alloc::Global;
 use vector_memory::Memory;
@@ -25,7 +26,6 @@ use vector_memory::laws::memories_are_lawful;
 
 /// Finds the operands of a call and makes the checks of its shape in their order: what is left to be done, or the first
 /// fault of 1 to 8. Memory is taken only by the test of a permutation, in `smp_*`.
-#[inline(always)]
 pub fn judge<'a>(alloc: Global, memory: &'a Memory, call: &'a Call) -> Result<Judged<'a>, Stop>
     ensures gives { let task = task_of call.now in
         GivesBy (tests_index task.word) made result (work memory.now.limit task.word (operands_of memory.now task.arguments)) }
@@ -34,8 +34,27 @@ pub fn judge<'a>(alloc: Global, memory: &'a Memory, call: &'a Call) -> Result<Ju
     ensures ready { IfOk result IsReady }
     ensures fits { IfOk result (λ judged. IsFittingEffect memory.now.limit (made judged)) }
 {
+    judge_by(&Sequential, alloc, &Meter::new(), memory, call)
+}
+
+/// `judge`, which tests an index by chunks where these pay. The meter says how many items a chunk has, and is not raised.
+#[inline(always)]
+pub fn judge_by<'a>(
+    execution: &impl Execution,
+    alloc: Global,
+    meter: &Meter,
+    memory: &'a Memory,
+    call: &'a Call,
+) -> Result<Judged<'a>, Stop>
+    ensures gives { let task = task_of call.now in
+        GivesBy (tests_index task.word) made result (work memory.now.limit task.word (operands_of memory.now task.arguments)) }
+    ensures answered { tests_index (task_of call.now).word ≡ false → IsDecided result }
+    ensures word { IfOk result (λ judged. word_of judged ≡ (task_of call.now).word) }
+    ensures ready { IfOk result IsReady }
+    ensures fits { IfOk result (λ judged. IsFittingEffect memory.now.limit (made judged)) }
+{
     memories_are_lawful(memory);
-    by_shape(alloc, memory, call)
+    by_shape(execution, alloc, meter, memory, call)
 }
 
 /// The first fault of a call, of 1 to 8, or none: what `judge` finds.
@@ -53,21 +72,34 @@ pub fn check(alloc: Global, memory: &Memory, call: &Call) -> Result<Option<Fault
 
 // A permutation is tested by marks, which take memory.
 #[inline(always)]
-fn by_shape<'a>(alloc: Global, memory: &'a Memory, call: &'a Call) -> Result<Judged<'a>, Stop>
+fn by_shape<'a>(
+    execution: &impl Execution,
+    alloc: Global,
+    meter: &Meter,
+    memory: &'a Memory,
+    call: &'a Call,
+) -> Result<Judged<'a>, Stop>
     ensures judges { let task = task_of call.now in
         JudgesBy (tests_index task.word) task.word (work memory.now.limit task.word (operands_of memory.now task.arguments)) result }
     ensures answered { tests_index (task_of call.now).word ≡ false → IsDecided result }
 {
     match call {
-        Call::Smp { kind, a, i, .. } => permute(alloc, memory, *kind, a, i),
-        Call::SmpSeg { kind, a, i, s, .. } => permute_segments(alloc, memory, *kind, a, i, s),
-        _ => Ok(judge_at_once(memory, call)?),
+        Call::Smp { kind, a, i, .. } => permute(execution, alloc, meter, memory, *kind, a, i),
+        Call::SmpSeg { kind, a, i, s, .. } => permute_segments(
+            execution, alloc, meter, memory, *kind, a, i, s,
+        ),
+        _ => Ok(judge_at_once(execution, meter, memory, call)?),
     }
 }
 
 /// The checks of a call whose index, if it has one, is tested without memory: of each but `smp_*`.
 #[inline(always)]
-fn judge_at_once<'a>(memory: &'a Memory, call: &'a Call) -> Result<Judged<'a>, Fault>
+fn judge_at_once<'a>(
+    execution: &impl Execution,
+    meter: &Meter,
+    memory: &'a Memory,
+    call: &'a Call,
+) -> Result<Judged<'a>, Fault>
     requires { tests_index (task_of call.now).word ≡ false }
     ensures { let task = task_of call.now in
         Judges task.word (work memory.now.limit task.word (operands_of memory.now task.arguments)) result }
@@ -127,14 +159,14 @@ fn judge_at_once<'a>(memory: &'a Memory, call: &'a Call) -> Result<Judged<'a>, F
         Call::DisSeg { kind, a, s, .. } => distribute(memory, *kind, a, s),
         Call::Ind { u, v, n, .. } => index(memory.limit(), *u, *v, *n),
         Call::IndSeg { a, b, s, .. } => index_segments(memory, a, b, s),
-        Call::Bck { kind, a, i, .. } => gather(memory, *kind, a, i),
+        Call::Bck { kind, a, i, .. } => gather(execution, meter, memory, *kind, a, i),
         Call::BckSeg {
             kind,
             a,
             s,
             index,
             ..
-        } => gather_segments(memory, *kind, a, s, &index.i, &index.t),
+        } => gather_segments(execution, meter, memory, *kind, a, s, &index.i, &index.t),
         Call::Pck { kind, a, f, .. } => pack(memory, *kind, a, f),
         Call::PckSeg { kind, a, f, s, .. } => pack_segments(memory, *kind, a, f, s),
         Call::Pkl { f, s, .. } => pack_lengths(memory, f, s),

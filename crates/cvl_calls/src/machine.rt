@@ -8,7 +8,7 @@ ghost use Rattle.cvl_calls.specs.Steps.{CountsStep, Grows, MayLackMemory, applie
 ghost use Rattle.cvl_calls.specs.Work.{work};
 ghost use Rattle.cvl_calls.specs.Runs.{TakesNoMemory, runs_kernel, tests_index};
 
-use crate::judging::judge;
+use crate::judging::judge_by;
 use crate::over::{Change, change_step, map_step};
 use crate::product::Product;
 use crate::running::run_with;
@@ -19,7 +19,7 @@ use scan_kernels::{Execution, Meter};
 use std::alloc::Global;
 use vector_memory::{Memory, Name, OutOfMemory, StoreFault, Value};
 
-/// The result of a call, or its first fault, from the values that it reads: `judge`, and then `run`. Nothing is written.
+/// The result of a call, or its first fault, from the values that it reads: `judge_by`, and then `run`. Nothing is written.
 /// The meter rises by one where a kernel ran: with a result, of each call for whose word `runs_kernel` is true. `fre_fov`,
 /// `len_fov` and `ext_vuz` take no memory, and are always answered. A value that is made is one that the memory may hold.
 pub fn work(
@@ -61,7 +61,7 @@ pub fn work_with(
     ensures counted { Counts (runs_kernel (task_of call.now).word) result meter.old meter.new }
     ensures fits { IfOk result (λ product. IsFittingEffect memory.now.limit (effect_of product)) }
 {
-    let judged = judge(alloc, memory, call)?;
+    let judged = judge_by(execution, alloc, meter, memory, call)?;
     Ok(run_with(execution, alloc, meter, spare, judged)?)
 }
 
@@ -247,7 +247,7 @@ fn step_apart(
     ensures err { OnErr result (memory.new ≡ memory.old) }
     ensures counted { CountsStep (runs_on memory.old (task_of call.now)) result meter.old meter.new }
 {
-    let judged = match judge(alloc, memory, call) {
+    let judged = match judge_by(execution, alloc, meter, memory, call) {
         Ok(judged) => judged,
         Err(Stop::Fault(fault)) => return Ok(Reply::Fault(fault)),
         Err(Stop::OutOfMemory) => return Err(OutOfMemory),

@@ -21,6 +21,7 @@ pub fn is_permutation(alloc: Global, index: &[i64], segments: &Segd) -> Result<b
 
 /// Whether the index holds each of its own places once: `is_permutation` where one segment has all items. One pass over the
 /// index, and a byte for each of its items.
+#[inline(never)]
 pub fn is_whole_permutation(alloc: Global, index: &[i64]) -> Result<bool, OutOfMemory>
     ensures { IfOk result (λ b. IsTrue b ↔ HoldsEachPlaceOnce index.now) }
 {

@@ -1,18 +1,16 @@
--- The places that an index holds, as marks: `marked_none` and `marked_more` (a part that is marked, one more index), `part_marked`
--- (all of it); `marks_many`, `marks_is`, `marks_lengths` (segments); `marks_all` (all marks are set where each segment is a
+-- The places that an index holds, as marks: `sorted_more`, `marked_more`, `block_marked` (a part that is marked, one more
+-- index, place and block), `part_marked` (all of it); `marks_many`, `marks_is`, `marks_lengths` (segments); `marks_all` (all marks are set where each segment is a
 -- permutation).
-use Rattle.std.proofs.Common.{◌≡◌, ◌↔◌, ℕ, ◌+◌, ◌<◌, ◌≤◌, List, [], ◌∷◌, ◌++◌, length, take, drop, map, refl, sym, ap, ◌∙◌, get_or, sum, subst, ℤ, pos, Bool, true, false, arith, All, inl, inr}
-use Rattle.std.specs.Prelude.{nat_lt, ◌&&◌, ◌||◌}
+use Rattle.std.proofs.Common.{◌≡◌, ◌↔◌, ℕ, zero, suc, ◌+◌, ◌<◌, ◌≤◌, List, [], ◌∷◌, ◌++◌, length, take, drop, map, refl, sym, ap, ◌∙◌, get_or, sum, ℤ, pos, Bool, true, false, cond, count_by, set, arith}
+use Rattle.std.specs.Prelude.{nat_eq, nat_lt, ◌&&◌, ◌||◌}
 use Rattle.std.specs.Ordering.{int_eq}
-use Rattle.std.specs.List.{range_with_len}
-use Rattle.std.proofs.Math.Bool.{or-true, or-false}
-use Rattle.std.proofs.lemmas.Bool.{cases_Bool}
+use Rattle.std.proofs.Math.Bool.{or_assoc}
 use Rattle.std.proofs.lemmas.Bool.Decides.{nat_tests}
-use Rattle.std.proofs.lemmas.List.{get_or_default, get_or-drop, get_or-map, get_or-take, length-drop, length-map, length-take-le, same_lists}
+use Rattle.std.proofs.lemmas.List.{get_or_default, get_or-drop, get_or-map, get_or-take, length-drop, length-map, length-take-le, same_lists, take-set, take_more_set}
 use Rattle.std.proofs.lemmas.List.Elements.{All-cons, All-head, All-nil, All-tail}
 use Rattle.std.proofs.lemmas.List.Folds.{list_all-append}
 use Rattle.std.proofs.lemmas.List.FromFn.{get_or-map-range_with_len, length-map-range_with_len}
-use Rattle.std.proofs.lemmas.List.Sums.{AllPass-from_list_all, count_by_more_no, count_by_more_yes, list_all-from_AllPass, sum_by-cons}
+use Rattle.std.proofs.lemmas.List.Sums.{AllPass-from_list_all, count_by_more_no, list_all-from_AllPass, sum_by-append, sum_by-cons, sum_by-take-drop, sum_by_more}
 use Rattle.segment_desc.specs.Cut.{cut}
 use Rattle.scan_kernels.specs.Indices.{HoldsEachPlaceOnce, PermuteSegments, times_held}
 use Rattle.scan_kernels.specs.Marked.{all_set, marks, segmented_marks}
@@ -27,34 +25,66 @@ marks_at : (index : List ℤ) (p : ℕ) (d : Bool) → p < length index → get_
 unfolding marks
 marks_at index p d h = get_or-map-range_with_len (λ p. nat_lt 0 (times_held p index)) 0 (length index) p p d h (omega arith)
 
--- a part has a mark at each place that stands among the first i indices
-abbrev pub PartMarked : List ℤ → ℕ → ℕ → List Bool → Type 0
-PartMarked index start i part = (j : ℕ) → j < length part → get_or part j false ≡ nat_lt 0 (times_held (start + j) (take i index))
+some_or_some : (a b : ℕ) → nat_lt 0 (a + b) ≡ (nat_lt 0 a || nat_lt 0 b)
+some_or_some zero b = ap (nat_lt 0) (let same : 0 + b ≡ b = omega arith in same)
+some_or_some (suc a) b = let more : 0 < suc a + b = omega arith in grind (arith, nat_tests)
 
-some_and_one : (n : ℕ) → nat_lt 0 (n + 1) ≡ true
-some_and_one n = grind (arith, nat_tests)
+some_or_one : (a : ℕ) (b : Bool) → nat_lt 0 (a + cond b 1 0) ≡ (nat_lt 0 a || b)
+some_or_one a b = some_or_some a (cond b 1 0) ∙ ap (λ c. nat_lt 0 a || c) (one b) where
+  one : (c : Bool) → nat_lt 0 (cond c 1 0) ≡ c
+  one true = refl
+  one false = refl
 
-module _ (index : List ℤ) (start i : ℕ) where
-  pub marked_more : (held : ℤ) (old new : List Bool) → i < length index → held ≡ get_or index i (pos 0) → length new ≡ length old
-      → ((j : ℕ) → j < length old → get_or new j false ≡ (get_or old j false || int_eq held (pos (start + j))))
-      → PartMarked index start i old → PartMarked index start (i + 1) new
-  marked_more held old new lt is same each before j within =
-      let p = start + j in
-      let inside : j < length old = omega arith in
-      let test : ℤ → Bool = λ z. int_eq z (pos p) in
-      let now = each j inside in
-      let was = before j inside in
-      elim (cases_Bool (int_eq held (pos p))) [
-        | inl hit ↦
-            let more : times_held p (take (i + 1) index) ≡ times_held p (take i index) + 1 = count_by_more_yes test index i (pos 0) lt (ap test (sym is) ∙ hit) in
-            now
-            ∙ ap (λ b. get_or old j false || b) hit
-            ∙ or-true (get_or old j false)
-            ∙ sym (ap (nat_lt 0) more ∙ some_and_one (times_held p (take i index)))
-        | inr miss ↦
-            let more : times_held p (take (i + 1) index) ≡ times_held p (take i index) = count_by_more_no test index i (pos 0) lt (ap test (sym is) ∙ miss) in
-            now ∙ ap (λ b. get_or old j false || b) miss ∙ or-false (get_or old j false) ∙ was ∙ sym (ap (nat_lt 0) more)
-      ]
+-- what one more item marks
+pub marked_more : {X : Type 0} (test : X → Bool) (xs : List X) (i : ℕ) (d : X) (was old new : Bool) → i < length xs → old ≡ (was || nat_lt 0 (count_by test (take i xs)))
+    → new ≡ (old || test (get_or xs i d)) → new ≡ (was || nat_lt 0 (count_by test (take (i + 1) xs)))
+marked_more test xs i d was old new lt before now =
+    let here = test (get_or xs i d) in
+    let so_far = nat_lt 0 (count_by test (take i xs)) in
+    let more : count_by test (take (i + 1) xs) ≡ count_by test (take i xs) + cond here 1 0 = sum_by_more (λ x. cond (test x) 1 0) xs i d lt in
+    now
+    ∙ ap (λ b. b || here) before
+    ∙ or_assoc was so_far here
+    ∙ ap (λ b. was || b) (sym (ap (nat_lt 0) more ∙ some_or_one (count_by test (take i xs)) here))
+
+-- the marks that are made and those that are still to be made are those of the index
+abbrev pub PartMarked : List ℤ → ℕ → List ℤ → List Bool → Type 0
+PartMarked index start rest part = (j : ℕ) → j < length part → (get_or part j false || nat_lt 0 (times_held (start + j) rest)) ≡ nat_lt 0 (times_held (start + j) index)
+
+-- what one more block marks
+pub block_marked : (index rest : List ℤ) (start k : ℕ) (old new : List Bool) → length new ≡ length old
+    → ((j : ℕ) → j < length old → get_or new j false ≡ (get_or old j false || nat_lt 0 (times_held (start + j) (take k rest))))
+    → PartMarked index start rest old → PartMarked index start (drop k rest) new
+block_marked index rest start k old new same each before j within =
+    let inside : j < length old = omega arith in
+    let p = start + j in
+    let block = nat_lt 0 (times_held p (take k rest)) in
+    let later = nat_lt 0 (times_held p (drop k rest)) in
+    let parts : times_held p rest ≡ times_held p (take k rest) + times_held p (drop k rest) = sym (sum_by-take-drop (λ z. cond (int_eq z (pos p)) 1 0) rest k) in
+    ap (λ b. b || later) (each j inside)
+    ∙ or_assoc (get_or old j false) block later
+    ∙ ap (λ b. get_or old j false || b) (sym (ap (nat_lt 0) parts ∙ some_or_some (times_held p (take k rest)) (times_held p (drop k rest))))
+    ∙ before j inside
+
+-- one more index is sorted out
+pub sorted_more : (index : List ℤ) (start i count behind j : ℕ) (falls : Bool) (held : ℤ) (fallen : List ℕ) → i < length index → count < length fallen → held ≡ get_or index i (pos 0)
+    → (falls && nat_eq behind j) ≡ int_eq held (pos (start + j)) → count_by (λ b. nat_eq b j) (take count fallen) ≡ times_held (start + j) (take i index)
+    → count_by (λ b. nat_eq b j) (take (count + cond falls 1 0) (set fallen count behind)) ≡ times_held (start + j) (take (i + 1) index)
+sorted_more index start i count behind j true held fallen lt room is test before =
+    let more : times_held (start + j) (take (i + 1) index) ≡ times_held (start + j) (take i index) + cond (int_eq (get_or index i (pos 0)) (pos (start + j))) 1 0 = sum_by_more (λ z. cond (int_eq z (pos (start + j))) 1 0) index i (pos 0) lt in
+    let one : cond (nat_eq behind j) 1 0 ≡ cond (int_eq (get_or index i (pos 0)) (pos (start + j))) 1 0 = ap {B = ℕ} (λ b. cond b 1 0) (test ∙ ap (λ z. int_eq z (pos (start + j))) is) in
+    let put : count_by (λ b. nat_eq b j) (take (count + 1) (set fallen count behind)) ≡ count_by (λ b. nat_eq b j) (take count fallen) + cond (nat_eq behind j) 1 0 =
+    ap (count_by (λ b. nat_eq b j)) (take_more_set fallen count behind room)
+    ∙ sum_by-append (λ b. cond (nat_eq b j) 1 0) (take count fallen) (behind ∷ [])
+    ∙ omega arith in
+    put ∙ ap (λ n. n + cond (nat_eq behind j) 1 0) before ∙ ap (λ n. times_held (start + j) (take i index) + n) one ∙ sym more
+sorted_more index start i count behind j false held fallen lt room is test before =
+    let more : times_held (start + j) (take (i + 1) index) ≡ times_held (start + j) (take i index) = count_by_more_no (λ z. int_eq z (pos (start + j))) index i (pos 0) lt (ap (λ z. int_eq z (pos (start + j))) (sym is) ∙ sym test) in
+    let none : count + 0 ≡ count = omega arith in
+    ap (λ n. count_by (λ b. nat_eq b j) (take n (set fallen count behind))) none
+    ∙ ap (count_by (λ b. nat_eq b j)) (take-set fallen count behind)
+    ∙ before
+    ∙ sym more
 
 pub part_marked : (index : List ℤ) (start : ℕ) (part : List Bool) → start + length part ≤ length index
     → ((j : ℕ) → j < length part → get_or part j false ≡ nat_lt 0 (times_held (start + j) index))

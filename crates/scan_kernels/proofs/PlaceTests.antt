@@ -1,8 +1,8 @@
 -- Which indices are places: `places_all` (of one list), `within-run` (those of a segment, from any place in it on),
 -- `each_within_all` (of segments). `all_set-part` (what one part says of all), `chunks_set_all` (what the chunks say),
 -- `chunk_at` (one of them).
-use Rattle.std.proofs.Common.{◌≡◌, ◌↔◌, ℕ, zero, suc, ◌+◌, ◌-◌, ◌*◌, ◌<◌, ◌≤◌, List, [], ◌∷◌, ◌++◌, length, take, drop, map, refl, sym, ap, ◌∙◌, get_or, sum, subst, zip, ℤ, pos, negsuc, Bool, true, false, arith, All, Some, add-one, length-append}
-use Rattle.std.specs.Prelude.{nat_lt, ◌&&◌}
+use Rattle.std.proofs.Common.{◌≡◌, ◌↔◌, ℕ, zero, suc, ◌+◌, ◌-◌, ◌*◌, ◌<◌, ◌≤◌, List, [], ◌∷◌, ◌++◌, length, take, drop, map, refl, sym, ap, ◌∙◌, get_or, sum, subst, ℤ, pos, negsuc, Bool, true, false, arith, All, Some, add-one, length-append}
+use Rattle.std.specs.Prelude.{◌&&◌}
 use Rattle.std.specs.List.{range_with_len, slice_get}
 use Rattle.std.proofs.Math.Bool.{and-false, and-true}
 use Rattle.std.proofs.Math.Seq.{drop-append-add, take-add}
@@ -13,7 +13,6 @@ use Rattle.std.proofs.lemmas.List.Folds.{list_all-append}
 use Rattle.std.proofs.lemmas.List.FromFn.{get_or-map-range_with_len, length-map-range_with_len, map-range_with_len_more}
 use Rattle.std.proofs.lemmas.List.Sums.{sum_by-cons}
 use Rattle.std.proofs.lemmas.Option.{slice_get-get_or}
-use Rattle.segment_desc.specs.Cut.{cut}
 use Rattle.scan_kernels.specs.Indices.{IsPlaceOf, LieWithin}
 use Rattle.scan_kernels.specs.Marked.{all_set, chunks_set, each_within, is_place}
 use Rattle.scan_kernels.proofs.Carried.{part-of_take}

@@ -1,14 +1,16 @@
 //! The places that an index holds, marked segment by segment, as a list of which each part is written by itself.
 
-ghost use Rattle.std.specs.Prelude.{◌≡◌, ℕ, ◌+◌, ◌<◌, ◌≤◌, ◌^◌, ◌||◌, false, length, map, sum, take, drop, slice_index_or};
+ghost use Rattle.std.specs.Prelude.{◌≡◌, ℕ, ◌+◌, ◌<◌, ◌≤◌, ◌^◌, ◌&&◌, ◌||◌, false, pos, nat_eq, nat_lt, count_by, length, map, sum, take, drop, slice_index_or};
 ghost use Rattle.std.specs.Ordering.{int_eq};
-ghost use Rattle.std.specs.Prelude.{pos};
 ghost use Rattle.segment_desc.specs.Cut.{cut};
+ghost use Rattle.scan_kernels.specs.Indices.{times_held};
 ghost use Rattle.scan_kernels.specs.Marked.{marks, segmented_marks};
 
 use crate::moves::behind;
-use crate::place::place_of;
 use crate::segmentwise::{Segmentwise, segment_at};
+
+/// How many indices are sorted out at a time.
+const BLOCK: usize = 256;
 
 /// For each place of each segment of the index, whether the segment holds it. The segments have all the indices together.
 #[derive(Clone, Copy)]
@@ -64,23 +66,103 @@ fn write_marks(index: &[i64], start: usize, part: &mut [bool])
     ensures { part.new ≡ take (length part.old) (drop start (marks index.now)) }
 {
     part.fill(false);
+    if part.len() == index.len() {
+        mark_straight(index, start, part);
+        return;
+    }
+    let mut rest = index;
+    while rest.len() > BLOCK {
+        let (block, later) = rest.split_at(BLOCK);
+        mark_block(block, start, part);
+        rest = later;
+    }
+    mark_block(rest, start, part);
+}
+
+/// Marks the places that some indices hold, those of them that fall into the part, where most do.
+#[inline(always)]
+fn mark_straight(index: &[i64], start: usize, part: &mut [bool])
+    requires small { start + length part.old < 2 ^ 64 }
+    ensures { (j : ℕ) → j < length part.old
+        → slice_index_or part.new j false ≡ (slice_index_or part.old j false || nat_lt 0 (times_held (start + j) index.now)) }
+{
     for held in index {
-        mark(*held, start, part);
+        mark_held(*held, start, part);
     }
 }
 
 /// Marks the place that an index holds, if it falls into the part.
 #[inline(always)]
-fn mark(held: i64, start: usize, part: &mut [bool])
+fn mark_held(held: i64, start: usize, part: &mut [bool])
     requires small { start + length part.old < 2 ^ 64 }
     ensures { (j : ℕ) → j < length part.old
         → slice_index_or part.new j false ≡ (slice_index_or part.old j false || int_eq held (pos (start + j))) }
 {
-    if held < 0 {
-        return;
+    let (behind, falls) = fall(held, start, part.len());
+    if falls {
+        mark(behind, part);
     }
-    let behind = behind(place_of(held), start);
-    if behind < part.len() {
-        part[behind] = true;
+}
+
+/// Marks the places that some indices hold, those of them that fall into the part. They are sorted out first without a branch, since
+/// no branch foretells which of them fall into the part.
+#[inline(always)]
+fn mark_block(index: &[i64], start: usize, part: &mut [bool])
+    requires few { length index.now ≤ BLOCK }
+    requires small { start + length part.old < 2 ^ 64 }
+    ensures { (j : ℕ) → j < length part.old
+        → slice_index_or part.new j false ≡ (slice_index_or part.old j false || nat_lt 0 (times_held (start + j) index.now)) }
+{
+    let mut fallen = [0; BLOCK];
+    let count = sort_out(index, start, part.len(), &mut fallen);
+    mark_each(&fallen[..count], part);
+}
+
+/// Writes for each index that falls into a part of so many places how far behind the start of the part its place lies, and says how
+/// many they are.
+#[inline(always)]
+fn sort_out(index: &[i64], start: usize, many: usize, fallen: &mut [usize; BLOCK]) -> usize
+    requires few { length index.now ≤ BLOCK }
+    requires small { start + many < 2 ^ 64 }
+    ensures count { result ≤ BLOCK }
+    ensures fallen { (j : ℕ) → j < many → count_by (λ b. nat_eq b j) (take result fallen.new) ≡ times_held (start + j) index.now }
+{
+    let mut count = 0;
+    for held in index {
+        let (behind, falls) = fall(*held, start, many);
+        fallen[count] = behind;
+        count += usize::from(falls);
+    }
+    count
+}
+
+/// How far behind the start of a part of so many places the place lies that an index holds, and whether it falls into the part.
+#[inline(always)]
+fn fall(held: i64, start: usize, many: usize) -> (usize, bool)
+    requires small { start + many < 2 ^ 64 }
+    ensures { (j : ℕ) → j < many → (result.1 && nat_eq result.0 j) ≡ int_eq held (pos (start + j)) }
+{
+    let behind = behind(held.unsigned_abs() as usize, start);
+    (behind, (0 <= held) & (behind < many))
+}
+
+/// Marks these places of a part, those that it has.
+#[inline(always)]
+fn mark_each(places: &[usize], part: &mut [bool])
+    ensures { (j : ℕ) → j < length part.old
+        → slice_index_or part.new j false ≡ (slice_index_or part.old j false || nat_lt 0 (count_by (λ b. nat_eq b j) places.now)) }
+{
+    for place in places {
+        mark(*place, part);
+    }
+}
+
+/// Marks a place of a part, if it has the place.
+#[inline(always)]
+fn mark(place: usize, part: &mut [bool])
+    ensures { (j : ℕ) → j < length part.old → slice_index_or part.new j false ≡ (slice_index_or part.old j false || nat_eq place j) }
+{
+    if place < part.len() {
+        part[place] = true;
     }
 }

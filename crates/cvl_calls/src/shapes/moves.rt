@@ -16,13 +16,16 @@ use crate::judged::Judged;
 use crate::operands::{ints, items, segs};
 use crate::stop::Stop;
 use cvl_text::{Fault, Kind};
+use scan_kernels::{Execution, Meter};
 use std::alloc::Global;
 use vector_memory::{Memory, Name};
 
 #[tactic(auto, unfolding(crate::specs::Work::permute))]
 #[inline(always)]
 pub(crate) fn permute<'a>(
+    execution: &impl Execution,
     alloc: Global,
+    meter: &Meter,
     memory: &'a Memory,
     kind: Kind,
     a: &Name,
@@ -33,14 +36,16 @@ pub(crate) fn permute<'a>(
     let xs = items(memory, kind, a)?;
     let places = ints(memory, i)?;
     same_length(xs.len(), places.len())?;
-    permutes_whole(alloc, places)?;
+    permutes_whole(execution, alloc, meter, places)?;
     Ok(Judged::Permute(xs, places))
 }
 
 #[tactic(auto, unfolding(crate::specs::Work::permute_segments))]
 #[inline(always)]
 pub(crate) fn permute_segments<'a>(
+    execution: &impl Execution,
     alloc: Global,
+    meter: &Meter,
     memory: &'a Memory,
     kind: Kind,
     a: &Name,
@@ -54,13 +59,15 @@ pub(crate) fn permute_segments<'a>(
     let segments = segs(memory, s)?;
     same_length(xs.len(), places.len())?;
     has_all(segments, xs.len())?;
-    permutes(alloc, places, segments)?;
+    permutes(execution, alloc, meter, places, segments)?;
     Ok(Judged::PermuteSegments(xs, places, segments))
 }
 
 #[tactic(auto, unfolding(crate::specs::Work::gather))]
 #[inline(always)]
 pub(crate) fn gather<'a>(
+    execution: &impl Execution,
+    meter: &Meter,
     memory: &'a Memory,
     kind: Kind,
     a: &Name,
@@ -70,13 +77,15 @@ pub(crate) fn gather<'a>(
 {
     let xs = items(memory, kind, a)?;
     let places = ints(memory, i)?;
-    within(places, xs.len())?;
+    within(execution, meter, places, xs.len())?;
     Ok(Judged::Gather(xs, places))
 }
 
 #[tactic(auto, unfolding(crate::specs::Work::gather_segments))]
 #[inline(always)]
 pub(crate) fn gather_segments<'a>(
+    execution: &impl Execution,
+    meter: &Meter,
     memory: &'a Memory,
     kind: Kind,
     a: &Name,
@@ -93,6 +102,6 @@ pub(crate) fn gather_segments<'a>(
     has_all(source, xs.len())?;
     has_all(by, places.len())?;
     has_each(source, by.count())?;
-    lies_within(places, source, by)?;
+    lies_within(execution, meter, places, source, by)?;
     Ok(Judged::GatherSegments(xs, source, places, by))
 }

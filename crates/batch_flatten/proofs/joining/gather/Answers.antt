@@ -4,7 +4,7 @@ use Rattle.batch_flatten.proofs.JoinLemmas.{closed-kept, closed-more, closes-bot
 use Rattle.batch_flatten.proofs.joining.gather.Goals as goal
 
 pub loop-position-init : goal.loop-position-init
-loop-position-init c =
+loop-position-init g c =
     let ws = c.args.words.now in
     let word = word_at ws c.args.first in
     let none = c.empty_group-group.ensures.judged in
@@ -19,7 +19,7 @@ loop-position-init c =
     }
 
 pub loop-position-preserved : goal.loop-position-preserved
-loop-position-preserved c =
+loop-position-preserved g c =
     let ws = c.args.words.now in
     let word = word_at ws c.args.first in
     let inv = c.loop-position.invariant in

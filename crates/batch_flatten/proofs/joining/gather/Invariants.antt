@@ -5,7 +5,7 @@ use Rattle.batch_flatten.specs.Joining.{ArePrepared, ClosesOnly, IsClosed, IsGro
 use Rattle.batch_flatten.proofs.joining.gather.Given as goal
 
 abbrev pub invariant-loop-position : goal.invariant-loop-position
-invariant-loop-position l = record {
+invariant-loop-position g l = record {
   group : IsGroup l.memory l.outcomes l.places l.words l.word l.group.positions l.group.judged.items;
   below : AreBelow 64 l.group.positions;
   few : vec_len l.group.judged + l.first ≤ l.position;

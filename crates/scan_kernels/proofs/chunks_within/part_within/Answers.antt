@@ -1,6 +1,5 @@
-use Rattle.std.proofs.Common.{arith, ◌≡◌, ◌∙◌, ◌+◌, ◌-◌, ◌<◌, ◌≤◌, IsTrue, ap, sym, drop, false, get_or, inl, inr, length, map, sum, take, true}
+use Rattle.std.proofs.Common.{arith, ◌≡◌, ◌∙◌, ◌+◌, ◌-◌, ap, sym, drop, false, get_or, inl, inr, map, take}
 use Rattle.std.proofs.lemmas.Bool.{cases_Bool}
-use Rattle.scan_kernels.specs.Indices.{IsPlaceOf}
 use Rattle.scan_kernels.specs.Marked.{all_set, each_within, is_place}
 use Rattle.scan_kernels.proofs.Carried.{segment_within_list}
 use Rattle.scan_kernels.proofs.NextSegment.{sum-take_more}

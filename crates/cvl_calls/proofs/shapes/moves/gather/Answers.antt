@@ -21,10 +21,10 @@ gather-tested kind a i v places n tested held index same was =
     ap (λ (r : Result (Unit {0}) Fault). r >>= next) (was ∙ ap (λ (m : ℕ). check (list_all (is_place m) places) BadIndex) same) ∙ rw (← held, ← index) refl
 
 pub returns-in_err-within : goal.returns-in_err-within
-returns-in_err-within c =
+returns-in_err-within g c =
     let told = gather-tested c.args.kind (Held (value_at c.args.memory.now c.args.a.now)) (Held (value_at c.args.memory.now c.args.i.now)) _ _ _ _ c.in_ok-xs.ensures.items c.in_ok-places.ensures.items c.len.ensures c.in_err-within.ensures.fault in
     search rules
 
 pub returns : goal.returns
-returns c =
+returns g c =
     (gather-tested c.args.kind (Held (value_at c.args.memory.now c.args.a.now)) (Held (value_at c.args.memory.now c.args.i.now)) _ _ _ _ c.in_ok-xs.ensures.items c.in_ok-places.ensures.items c.len.ensures c.in_ok-within.ensures.fault, search rules, search rules)

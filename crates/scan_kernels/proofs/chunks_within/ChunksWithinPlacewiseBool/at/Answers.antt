@@ -1,4 +1,4 @@
-use Rattle.std.proofs.Common.{arith, rules, ◌≡◌, ◌∙◌, ◌*◌, ◌+◌, ◌-◌, ◌<◌, Some, ap, min, sym, drop, length, take}
+use Rattle.std.proofs.Common.{arith, rules, ◌≡◌, ◌∙◌, ◌*◌, ◌+◌, ◌-◌, Some, ap, min, sym, drop, length, take}
 use Rattle.std.proofs.lemmas.List.{length-drop, take_min}
 use Rattle.scan_kernels.specs.Marked.{all_set, each_within}
 use Rattle.scan_kernels.proofs.PlaceTests.{chunk_at, length-chunks_set, length-each_within}

@@ -4,19 +4,19 @@ use Rattle.cvl_calls.specs.Runs.{tests_index}
 use Rattle.cvl_calls.specs.Work.{work}
 use Rattle.cvl_calls.proofs.Fitting.{operands_of-fits}
 use Rattle.cvl_calls.proofs.WorkLemmas.{judged-fits, judged-gives, judged-ready, judged-word, work-fits}
-use Rattle.cvl_calls.proofs.judging.judge.Goals as goal
+use Rattle.cvl_calls.proofs.judging.judge_by.Goals as goal
 
 pub returns-clause-gives : goal.returns-clause-gives
-returns-clause-gives c = judged-gives _ _ _ c.by_shape.result c.by_shape.ensures.judges
+returns-clause-gives g c = judged-gives _ _ _ c.by_shape.result c.by_shape.ensures.judges
 
 pub returns-clause-word : goal.returns-clause-word
-returns-clause-word c = judged-word _ _ _ c.by_shape.result c.by_shape.ensures.judges
+returns-clause-word g c = judged-word _ _ _ c.by_shape.result c.by_shape.ensures.judges
 
 pub returns-clause-ready : goal.returns-clause-ready
-returns-clause-ready c = judged-ready _ _ _ c.by_shape.result c.by_shape.ensures.judges
+returns-clause-ready g c = judged-ready _ _ _ c.by_shape.result c.by_shape.ensures.judges
 
 pub returns-clause-fits : goal.returns-clause-fits
-returns-clause-fits c =
+returns-clause-fits g c =
     let task = task_of c.args.call.now in
     let m = c.args.memory.now in
     let operands = operands_of m task.arguments in
