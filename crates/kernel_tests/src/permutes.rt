@@ -6,3 +6,4 @@ mod joined;
 mod kept;
 mod moves;
 mod packs;
+mod tests;

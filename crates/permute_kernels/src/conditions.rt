@@ -76,6 +76,7 @@ pub fn in_range(index: &[i64], source: &Segd, by: &Segd) -> bool
     each_within(index, source.lengths(), by.lengths())
 }
 
+#[inline(never)]
 fn each_within(index: &[i64], source: &[usize], by: &[usize]) -> bool
     requires counts { length source.now ≡ length by.now }
     requires total { sum by.now ≡ length index.now }

@@ -201,8 +201,10 @@ pub fn pack_size(execution: &impl Execution, meter: &Meter, count: usize) -> Opt
     few_size(execution, meter, count, count >= PACKS_PAY)
 }
 
-/// From how many items on it repays to start threads that each go through a whole index and mark what falls into their part.
-const PERMUTATION_TESTS_PAY: usize = 262_144;
+/// From how many items on it repays to start threads that each go through a whole index and mark what falls into their part: found by
+/// timing four parts one after another, on processors that other work shared. A quarter of that was less than the test in one thread
+/// from 1,000,000 items on, but all of it nearly three times as much up to 4,000,000, and no more at 16,000,000.
+const PERMUTATION_TESTS_PAY: usize = 4_000_000;
 
 /// The size of the chunks in which so many indices are tested for a permutation, if it goes by chunks. There are few, since each
 /// goes through the whole index.
@@ -219,8 +221,9 @@ pub fn permutation_test_size(
     few_size(execution, meter, count, count >= PERMUTATION_TESTS_PAY)
 }
 
-/// From how many items on it repays to start threads that read an index from one end to the other.
-const PLACES_TESTS_PAY: usize = 1_000_000;
+/// From how many items on it repays to start threads that read an index from one end to the other: found by `bench chunks` on four
+/// processors that other work shared, where they lost at 1,000,000, and were half as fast again at 2,000,000.
+const PLACES_TESTS_PAY: usize = 2_000_000;
 
 /// The size of the chunks in which so many indices are tested for places, if it goes by chunks. There are few, since what is known
 /// of each lies on the stack.

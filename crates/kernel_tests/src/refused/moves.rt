@@ -4,8 +4,8 @@ use super::{begin, end};
 use crate::cut::cut;
 use permute_kernels::{
     are_places, back_permute_b, back_permute_z, gather_b, gather_z, in_range, is_permutation,
-    is_whole_permutation, pack_b, pack_z, packed_lengths, permute_b, permute_whole_b,
-    permute_whole_z, permute_z,
+    is_permutation_by, is_whole_permutation, is_whole_permutation_by, pack_b, pack_z,
+    packed_lengths, permute_b, permute_whole_b, permute_whole_z, permute_z,
 };
 use scan_kernels::{Meter, Sequential};
 use std::alloc::{Alloc, Global};
@@ -61,6 +61,22 @@ fn tests_of_permutations(rt: HostRuntime) {
     begin(&rt);
     let whole = is_whole_permutation(rt.alloc(), &[2, 0, 0]);
     let each = is_permutation(rt.alloc(), &[1, 0, 0], &segments);
+    println!(rt; "end").expect(&rt, "output");
+    assert!(rt; !matches!(whole, Ok(true)) && !matches!(each, Ok(false)));
+}
+
+/// So does one by chunks.
+#[test]
+fn tests_of_permutations_by_chunks(rt: HostRuntime) {
+    let (alloc, meter, segments) = (
+        rt.alloc(),
+        Meter::with_chunk(2),
+        cut(&rt, rt.alloc(), &[2, 0, 1]),
+    );
+    assert!(rt; segments.total() == 3);
+    begin(&rt);
+    let whole = is_whole_permutation_by(&Sequential, alloc, &meter, &[2, 0, 0]);
+    let each = is_permutation_by(&Sequential, alloc, &meter, &[1, 0, 0], &segments);
     println!(rt; "end").expect(&rt, "output");
     assert!(rt; !matches!(whole, Ok(true)) && !matches!(each, Ok(false)));
 }
