@@ -1,9 +1,14 @@
 //! Calls and blocks by an execution policy: kernels over large vectors go in threads of the runtime.
 
+ghost use Rattle.std.specs.Prelude.{◌≡◌, ◌≤◌, length};
+ghost use Rattle.call_history.specs.Blocks.{block_limit};
+ghost use Rattle.combiner.specs.Standing.{IsIdle, HasLeftABlock};
+
 use super::machines::{block_of, text_of};
 use crate::asking::read;
 use crate::table::two_with;
-use cvl_text::Reply;
+use combiner::{Caller, Shared};
+use cvl_text::{Call, Reply};
 
 /// As many items as a vector may have, from which on a reduction goes in threads; and room for three of them.
 const LINE: &[u8] = b"a = dis_vuz 3 1048576";
@@ -22,6 +27,19 @@ fn a_call_by_a_runtime(rt: HostRuntime) {
     assert!(rt; place == 1 && matches!(&reply, Reply::Int(3_145_728)));
 }
 
+/// Leaves a block of an idle caller.
+fn leave(shared: &Shared, caller: &mut Caller, calls: Vec<Call>)
+    requires machine { caller.old.machine ≡ shared.now }
+    requires idle { IsIdle caller.old }
+    requires few { (1 ≤ length calls.items) × (length calls.items ≤ block_limit) }
+    ensures machine { caller.new.machine ≡ shared.now }
+    ensures left { HasLeftABlock caller.new }
+{
+    let Ok(()) = shared.post_block(caller, calls) else {
+        unreachable!()
+    };
+}
+
 #[test]
 fn a_block_by_a_runtime(rt: HostRuntime) {
     let alloc = rt.alloc();
@@ -31,9 +49,7 @@ fn a_block_by_a_runtime(rt: HostRuntime) {
     let (place, replies) = ran.ok().expect(&rt, "memory");
     assert!(rt; place == 0);
     assert!(rt; text_of(&rt, alloc, &replies).as_slice() == b"ok\nok\nint 6291456\n".as_slice());
-    let Ok(()) = shared.post_block(&mut second, block_of(&rt, alloc, &[b"max_ruz b"])) else {
-        unreachable!()
-    };
+    leave(&shared, &mut second, block_of(&rt, alloc, &[b"max_ruz b"]));
     let waited = shared.wait_block_by(&rt, &rt, alloc, &mut second);
     let (place, replies) = waited.ok().expect(&rt, "memory");
     assert!(rt; place == 3);
