@@ -13,6 +13,7 @@ ghost use Rattle.cvl_calls.specs.Outcomes.{effect_of};
 ghost use Rattle.cvl_calls.specs.Runs.{runs_kernel};
 ghost use Rattle.call_history.specs.declared.request.Outcome.{Outcome};
 ghost use Rattle.call_history.specs.declared.work.Work.{Work};
+ghost use Rattle.call_history.specs.Books.{memory_of};
 ghost use Rattle.call_history.specs.Works.{IsWork};
 ghost use Rattle.batch_flatten.specs.Places.{AreBelow};
 ghost use Rattle.batch_flatten.specs.Counts.{CountsJoin};
@@ -21,8 +22,8 @@ ghost use Rattle.batch_flatten.specs.Joining.{ArePrepared, AreWords, ClosesOnly,
 
 use crate::plan::BATCH_LIMIT;
 use crate::turn::Turn;
-use call_history::{Outcome, Work};
-use cvl_calls::{Judged, Product, Stop, judge_by, run_joined, runs_kernel};
+use call_history::{Book, Outcome, Work};
+use cvl_calls::{Judged, Product, Shelves, Stop, judge_by, run_joined_with, runs_kernel};
 use cvl_text::Word;
 use scan_kernels::{Execution, Meter};
 use std::alloc::Global;
@@ -312,6 +313,7 @@ fn lead(
     execution: &impl Execution,
     alloc: Global,
     meter: &mut Meter,
+    shelves: &mut Shelves,
     memory: &Memory,
     places: &[u8],
     words: &[Word],
@@ -342,7 +344,7 @@ fn lead(
         return;
     };
     let word = words[first];
-    let Ok(products) = run_joined(execution, alloc, meter, word, &group.judged) else {
+    let Ok(products) = run_joined_with(execution, alloc, meter, shelves, word, &group.judged) else {
         return;
     };
     put_all(&group.positions, products, turns, works);
@@ -353,7 +355,7 @@ pub(crate) fn join(
     execution: &impl Execution,
     alloc: Global,
     meter: &mut Meter,
-    memory: &Memory,
+    book: &mut Book,
     places: &[u8],
     words: &[Word],
     outcomes: &[Outcome],
@@ -366,17 +368,31 @@ pub(crate) fn join(
     requires within { All (λ p. p < length outcomes.now) places.now }
     requires position { position < length places.now }
     requires words { AreWords words.now outcomes.now places.now }
-    requires prepared { ArePrepared memory.now outcomes.now places.now words.now turns.old works.old.items position }
-    ensures prepared { ArePrepared memory.now outcomes.now places.now words.now turns.new works.new.items position }
+    requires prepared { ArePrepared (memory_of book.old) outcomes.now places.now words.now turns.old works.old.items position }
+    ensures prepared { ArePrepared (memory_of book.new) outcomes.now places.now words.now turns.new works.new.items position }
     ensures closes { ClosesOnly words.now (word_at words.now position) turns.old turns.new }
     ensures closed { slice_get turns.old position ≡ Some Turn.Open → IsTrue (runs_kernel (word_at words.now position))
         → IsClosed words.now (word_at words.now position) turns.new (position + 1) (length words.now) }
+    ensures book { book.new ≡ book.old }
     ensures counted { CountsJoin (runs_kernel (word_at words.now position)) (slice_get turns.old position) (slice_get turns.new position)
         meter.old meter.new }
 {
     if is_leader(words, turns, position) {
+        let mut shelves = book.take_shelves();
+        let memory = book.memory();
         lead(
-            execution, alloc, meter, memory, places, words, outcomes, position, turns, works,
+            execution,
+            alloc,
+            meter,
+            &mut shelves,
+            memory,
+            places,
+            words,
+            outcomes,
+            position,
+            turns,
+            works,
         );
+        book.put_shelves(shelves);
     }
 }

@@ -144,16 +144,7 @@ fn serve_next(
     ensures spaces { vec_capacity outcomes.new ≡ vec_capacity outcomes.old }
 {
     join(
-        execution,
-        alloc,
-        meter,
-        book.memory(),
-        places,
-        words,
-        outcomes,
-        position,
-        turns,
-        works,
+        execution, alloc, meter, book, places, words, outcomes, position, turns, works,
     );
     let turn = turns[position];
     let work = work_for(turn, works, position);

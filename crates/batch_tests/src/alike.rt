@@ -4,6 +4,7 @@ use crate::alone::come_to_the_same;
 use crate::asking::book_of;
 use crate::table::{ALONE, CALLS, OPERANDS, write_call};
 use batch_flatten::Ran;
+use scan_kernels::DEFAULT_CHUNK;
 use std::alloc::Global;
 use std::process::Abort;
 use vector_memory::ROOM_LIMIT;
@@ -29,8 +30,8 @@ fn alike(rt: &impl Abort, alloc: Global, call: &str, callers: usize, sets: &[cha
     lines
 }
 
-/// Asserts of a call of the table that so many callers of it are served in one wave, by so many kernel runs, and that they come
-/// to the same as one by one.
+/// Asserts of a call of the table that so many callers of it are served in one wave, by so many kernel runs, with chunks of so
+/// many items, and that they come to the same as one by one.
 fn joins(
     rt: &impl Abort,
     alloc: Global,
@@ -38,12 +39,13 @@ fn joins(
     call: &str,
     kernels: u64,
     callers: usize,
+    chunk: usize,
     sets: &[char; 4],
 ) {
     let mut one = book_of(rt, alloc, ROOM_LIMIT, before);
     let mut other = book_of(rt, alloc, ROOM_LIMIT, before);
     let lines = alike(rt, alloc, call, callers, sets);
-    let ran = come_to_the_same(rt, alloc, &mut one, &mut other, &lines);
+    let ran = come_to_the_same(rt, alloc, &mut one, &mut other, chunk, &lines);
     let wanted = Ran {
         waves: 1,
         kernels,
@@ -53,39 +55,76 @@ fn joins(
 }
 
 /// Asserts of each call of the table that so many callers of it join, where it runs a kernel.
-fn all_join(rt: &impl Abort, alloc: Global, callers: usize, sets: &[char; 4]) {
+fn all_join(rt: &impl Abort, alloc: Global, callers: usize, chunk: usize, sets: &[char; 4]) {
     let before = before(rt, alloc);
     for (place, call) in CALLS.iter().enumerate() {
         let kernels = u64::from(place >= ALONE);
-        joins(rt, alloc, &before, call, kernels, callers, sets);
+        joins(rt, alloc, &before, call, kernels, callers, chunk, sets);
     }
 }
 
 #[test]
 fn with_items(rt: HostRuntime) {
     for callers in [2, 3, 64] {
-        all_join(&rt, rt.alloc(), callers, &['0', '0', '0', '0']);
+        all_join(
+            &rt,
+            rt.alloc(),
+            callers,
+            DEFAULT_CHUNK,
+            &['0', '0', '0', '0'],
+        );
     }
 }
 
 #[test]
 fn with_no_items(rt: HostRuntime) {
     for callers in [2, 3, 64] {
-        all_join(&rt, rt.alloc(), callers, &['1', '1', '1', '1']);
+        all_join(
+            &rt,
+            rt.alloc(),
+            callers,
+            DEFAULT_CHUNK,
+            &['1', '1', '1', '1'],
+        );
     }
 }
 
 #[test]
 fn with_empty_segments(rt: HostRuntime) {
     for callers in [2, 3, 64] {
-        all_join(&rt, rt.alloc(), callers, &['2', '2', '2', '2']);
+        all_join(
+            &rt,
+            rt.alloc(),
+            callers,
+            DEFAULT_CHUNK,
+            &['2', '2', '2', '2'],
+        );
     }
 }
 
 #[test]
 fn with_operands_of_several_lengths(rt: HostRuntime) {
     for callers in [2, 3, 64] {
-        all_join(&rt, rt.alloc(), callers, &['0', '3', '1', '2']);
-        all_join(&rt, rt.alloc(), callers, &['1', '3', '2', '0']);
+        all_join(
+            &rt,
+            rt.alloc(),
+            callers,
+            DEFAULT_CHUNK,
+            &['0', '3', '1', '2'],
+        );
+        all_join(
+            &rt,
+            rt.alloc(),
+            callers,
+            DEFAULT_CHUNK,
+            &['1', '3', '2', '0'],
+        );
+    }
+}
+
+#[test]
+fn by_chunks(rt: HostRuntime) {
+    for (callers, chunk) in [(2, 1), (3, 2), (64, 7)] {
+        all_join(&rt, rt.alloc(), callers, chunk, &['0', '3', '1', '2']);
     }
 }

@@ -131,16 +131,17 @@ fn is_same_order(one: &Book, other: &Book) -> bool {
     true
 }
 
-/// Serves the calls of these lines as a batch on one book, runs them one by one in the order of the waves on another of the
+/// Serves the calls of these lines as a batch on one book, with chunks of so many items, runs them one by one in the order of the waves on another of the
 /// same history, and asserts that both come to the same, and that all that may be joined was joined.
 pub(crate) fn come_to_the_same(
     rt: &impl Abort,
     alloc: Global,
     one: &mut Book,
     other: &mut Book,
+    chunk: usize,
     lines: &str,
 ) -> Ran {
-    let served = serve(rt, alloc, one, lines);
+    let served = serve(rt, alloc, one, chunk, lines);
     let kernels = run_alone(rt, alloc, other, lines, &served);
     assert!(rt; served.ran.singles == 0, "{lines}");
     assert!(rt; served.ran.kernels == kernels, "{lines}");

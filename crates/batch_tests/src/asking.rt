@@ -50,11 +50,17 @@ pub(crate) struct Served {
     pub outcomes: Vec<Outcome>,
 }
 
-/// Serves the calls of these lines as one batch.
-pub(crate) fn serve(rt: &impl Abort, alloc: Global, book: &mut Book, lines: &str) -> Served {
+/// Serves the calls of these lines as one batch, with chunks of so many items.
+pub(crate) fn serve(
+    rt: &impl Abort,
+    alloc: Global,
+    book: &mut Book,
+    chunk: usize,
+    lines: &str,
+) -> Served {
     let mut requests = batch_of(rt, alloc, lines);
     let mut outcomes = Vec::with_capacity(alloc, BATCH_LIMIT).expect(rt, "memory");
-    let mut meter = Meter::new();
+    let mut meter = Meter::with_chunk(chunk);
     let ran = run_batch(
         &Sequential,
         alloc,

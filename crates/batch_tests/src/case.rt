@@ -2,7 +2,7 @@
 
 use crate::asking::{answers_of, book_of, memory_of, serve};
 use batch_flatten::Ran;
-use scan_kernels::Sequential;
+use scan_kernels::{DEFAULT_CHUNK, Sequential};
 use std::alloc::Global;
 use std::process::Abort;
 
@@ -27,7 +27,7 @@ pub(crate) struct Case<'a> {
 /// Serves the batch, and asserts what is wanted of it.
 pub(crate) fn comes_about(rt: &impl Abort, alloc: Global, case: &Case) {
     let mut book = book_of(rt, alloc, case.room, case.before);
-    let served = serve(rt, alloc, &mut book, case.calls);
+    let served = serve(rt, alloc, &mut book, DEFAULT_CHUNK, case.calls);
     let wanted = Ran {
         waves: case.waves,
         kernels: case.kernels,

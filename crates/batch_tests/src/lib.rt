@@ -15,6 +15,8 @@ mod case;
 #[cfg(test)]
 mod full;
 #[cfg(test)]
+mod kept;
+#[cfg(test)]
 mod numbers;
 #[cfg(test)]
 mod plans;

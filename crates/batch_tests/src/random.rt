@@ -5,6 +5,7 @@ use crate::asking::book_of;
 use crate::numbers::Numbers;
 use crate::table::{CALLS, OPERANDS, write_call};
 use batch_flatten::BATCH_LIMIT;
+use scan_kernels::DEFAULT_CHUNK;
 use std::alloc::Global;
 use std::process::Abort;
 
@@ -59,7 +60,7 @@ fn serve_some(rt: &impl Abort, alloc: Global, numbers: &mut Numbers, shape: &Sha
     let mut other = book_of(rt, alloc, shape.room, OPERANDS);
     for _ in 0..4 {
         let lines = batch(rt, alloc, numbers, shape);
-        come_to_the_same(rt, alloc, &mut one, &mut other, &lines);
+        come_to_the_same(rt, alloc, &mut one, &mut other, DEFAULT_CHUNK, &lines);
     }
 }
 

@@ -1,6 +1,6 @@
 //! The rows of batches: alike calls `xk = add_wuz a b` in one batch beside the same calls one by one, and planning alone.
 //! Both ways begin with the same list of requests, and each runs on a book of its own. They take turns, and of each the
-//! least time counts.
+//! least time counts. Rows `batch threads` are the same with a runtime as the policy.
 
 ghost use Rattle.std.specs.Prelude.{◌≡◌, ◌≢◌, ◌<◌, ◌≤◌, [], length, vec_len, OnSome};
 ghost use Rattle.std.specs.List.{AllByRecursion, AllPairs};
@@ -11,10 +11,11 @@ use crate::operands::{name, numbers};
 use batch_flatten::{BATCH_LIMIT, run_batch};
 use call_history::{Book, CALLER_LIMIT, Job, Outcome, Request};
 use cvl_text::{Call, Z2};
-use scan_kernels::{Meter, Sequential};
+use scan_kernels::{Execution, Meter, Sequential};
 use std::alloc::Global;
 use std::io;
 use std::rt::Clock;
+use std::thread::Threads;
 use std::time::Instant;
 use vector_memory::Name;
 
@@ -136,7 +137,12 @@ fn ask(requests: &mut Vec<Request>, calls: &Calls) -> Option<()>
 }
 
 /// Serves the requests one by one, from the last to the first.
-fn serve_each(alloc: Global, book: &mut Book, lists: &mut Lists) -> Option<()> {
+fn serve_each(
+    execution: &impl Execution,
+    alloc: Global,
+    book: &mut Book,
+    lists: &mut Lists,
+) -> Option<()> {
     while let Some(request) = lists.requests.pop() {
         let Request { caller, job } = request;
         let Job::One(call) = job else {
@@ -145,7 +151,7 @@ fn serve_each(alloc: Global, book: &mut Book, lists: &mut Lists) -> Option<()> {
         if caller >= CALLER_LIMIT as u64 {
             return None;
         }
-        let Ok(_) = book.run_metered(&Sequential, alloc, &mut lists.meter, caller, call) else {
+        let Ok(_) = book.run_metered(execution, alloc, &mut lists.meter, caller, call) else {
             return None;
         };
     }
@@ -153,14 +159,21 @@ fn serve_each(alloc: Global, book: &mut Book, lists: &mut Lists) -> Option<()> {
 }
 
 /// Serves the calls once.
-fn serve(alloc: Global, book: &mut Book, calls: &Calls, way: Way, lists: &mut Lists) -> Option<()> {
+fn serve(
+    execution: &impl Execution,
+    alloc: Global,
+    book: &mut Book,
+    calls: &Calls,
+    way: Way,
+    lists: &mut Lists,
+) -> Option<()> {
     ask(&mut lists.requests, calls)?;
     match way {
         Way::Batch => {
             lists.outcomes.clear();
             lists.outcomes.reserve(lists.requests.len()).ok()?;
             run_batch(
-                &Sequential,
+                execution,
                 alloc,
                 book,
                 &mut lists.requests,
@@ -168,7 +181,7 @@ fn serve(alloc: Global, book: &mut Book, calls: &Calls, way: Way, lists: &mut Li
                 &mut lists.meter,
             );
         }
-        Way::OneByOne => serve_each(alloc, book, lists)?,
+        Way::OneByOne => serve_each(execution, alloc, book, lists)?,
     }
     Some(())
 }
@@ -177,6 +190,7 @@ fn serve(alloc: Global, book: &mut Book, calls: &Calls, way: Way, lists: &mut Li
 /// is longer.
 fn time_on(
     rt: &impl Clock,
+    execution: &impl Execution,
     alloc: Global,
     book: &mut Book,
     calls: &Calls,
@@ -187,10 +201,10 @@ fn time_on(
 ) -> Option<u32> {
     let space = rounds.saturating_add(1).saturating_mul(BATCH_LIMIT as u32);
     prepare(alloc, book, calls, items, space)?;
-    serve(alloc, book, calls, way, lists)?;
+    serve(execution, alloc, book, calls, way, lists)?;
     let start = Instant::now(rt).ok()?;
     for _ in 0..rounds {
-        serve(alloc, book, calls, way, lists)?;
+        serve(execution, alloc, book, calls, way, lists)?;
     }
     let taken = start.elapsed(rt).ok()?;
     Some(u32::try_from(taken.as_nanos()).unwrap_or(u32::MAX))
@@ -199,6 +213,7 @@ fn time_on(
 /// The time of so many rounds of the calls, in nanoseconds, on a book of their own.
 fn time(
     rt: &impl Clock,
+    execution: &impl Execution,
     alloc: Global,
     calls: &Calls,
     items: u32,
@@ -207,12 +222,15 @@ fn time(
     lists: &mut Lists,
 ) -> Option<u32> {
     let mut book = Book::new(alloc, ROOM).ok()?;
-    time_on(rt, alloc, &mut book, calls, items, rounds, way, lists)
+    time_on(
+        rt, execution, alloc, &mut book, calls, items, rounds, way, lists,
+    )
 }
 
 /// The least times of one call in a batch of so many and by itself, in nanoseconds.
 fn least(
     rt: &impl Clock,
+    execution: &impl Execution,
     alloc: Global,
     shape: Shape,
     count: u32,
@@ -229,9 +247,19 @@ fn least(
     let rounds = timed / count.max(1);
     let (mut batch, mut one_by_one) = (u32::MAX, u32::MAX);
     for _ in 0..repeats {
-        batch = batch.min(time(rt, alloc, &calls, items, rounds, Way::Batch, &mut lists)?);
+        batch = batch.min(time(
+            rt,
+            execution,
+            alloc,
+            &calls,
+            items,
+            rounds,
+            Way::Batch,
+            &mut lists,
+        )?);
         one_by_one = one_by_one.min(time(
             rt,
+            execution,
             alloc,
             &calls,
             items,
@@ -247,12 +275,13 @@ fn least(
 /// Prints `what TAB n=calls len=items TAB cvl TAB nanoseconds a call in a batch TAB by itself TAB their ratio`.
 fn row<R: Alloc<A = Global> + Clock + Print>(
     rt: &R,
+    execution: &impl Execution,
     what: &str,
     shape: Shape,
     count: u32,
     items: u32,
 ) -> io::Result<()> {
-    if let Some((batch, one_by_one)) = least(rt, rt.alloc(), shape, count, items) {
+    if let Some((batch, one_by_one)) = least(rt, execution, rt.alloc(), shape, count, items) {
         let ratio = batch / one_by_one;
         println!(rt;
             "{what}\tn={count} len={items}\tcvl\t{batch:.1}\t{one_by_one:.1}\t{ratio:.3}"
@@ -261,15 +290,25 @@ fn row<R: Alloc<A = Global> + Clock + Print>(
     Ok(())
 }
 
-/// All rows of batches.
-pub fn rows<R: Alloc<A = Global> + Clock + Print>(rt: &R) -> io::Result<()> {
+/// Batches of long vectors: how many calls, and how many items. In threads the results of the first lie in vectors that were kept;
+/// of the second half of them do.
+const LONG: [(u32, u32); 2] = [(16, 65_536), (64, 32_768)];
+
+/// All rows of batches: in the calling thread, and those of long vectors in threads as well.
+pub fn rows<R: Alloc<A = Global> + Clock + Print + Threads + Execution<Shared = R> + Sync>(
+    rt: &R,
+) -> io::Result<()> {
     for items in ITEMS {
         for count in CALLS {
-            row(rt, "batch", Shape::Alike, count, items)?;
+            row(rt, &Sequential, "batch", Shape::Alike, count, items)?;
         }
     }
+    row(rt, &Sequential, "batch", Shape::Alike, 16, 65_536)?;
+    for (count, items) in LONG {
+        row(rt, rt, "batch threads", Shape::Alike, count, items)?;
+    }
     for count in [2, 64] {
-        row(rt, "chain", Shape::Chain, count, 2)?;
+        row(rt, &Sequential, "chain", Shape::Chain, count, 2)?;
     }
     Ok(())
 }

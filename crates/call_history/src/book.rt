@@ -17,7 +17,7 @@ use crate::block::{enter_each, run_each};
 use crate::entry::EntryRef;
 use crate::log::Log;
 use crate::work::Work;
-use cvl_calls::{Product, Spare, apply_with, step_with, target};
+use cvl_calls::{Product, Shelves, Spare, apply_joined, step_with, target};
 use cvl_text::{Call, Reply};
 use scan_kernels::{Execution, Meter};
 use std::alloc::Global;
@@ -82,7 +82,7 @@ pub(crate) fn enter(
     place
 }
 
-/// Stores or says what a call made of the memory.
+/// Stores or says what a call made of the memory in a joined run.
 fn done(
     spare: &mut Spare,
     memory: &mut Memory,
@@ -98,7 +98,7 @@ fn done(
     memories_are_lawful(memory);
     match work {
         Work::Say(reply) => Ok(reply),
-        Work::Store(value) => apply_with(spare, memory, target(call), Product::Store(value)),
+        Work::Store(value) => apply_joined(spare, memory, target(call), Product::Store(value)),
     }
 }
 
@@ -332,6 +332,23 @@ impl Book {
         ensures { result.now ≡ memory_of self.now }
     {
         &self.memory
+    }
+
+    /// Takes out the vectors that are kept for the results of joined runs, for a run over what the memory lends, and leaves none. They
+    /// are to be put back.
+    #[inline(always)]
+    pub fn take_shelves(&mut self) -> Shelves
+        ensures { self.new ≡ self.old }
+    {
+        self.spare.take_shelves()
+    }
+
+    /// Puts vectors in the place of those that are kept for the results of joined runs.
+    #[inline(always)]
+    pub fn put_shelves(&mut self, shelves: Shelves)
+        ensures { self.new ≡ self.old }
+    {
+        self.spare.put_shelves(shelves);
     }
 
     /// Runs the calls of the history anew, on a memory of its own, and answers whether names, their order and their values

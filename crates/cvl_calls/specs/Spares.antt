@@ -1,19 +1,38 @@
 -- How much memory is kept for the next results.
-use Rattle.std.specs.Prelude.{ℕ, ◌≤◌, ◌+◌, ◌*◌}
+use Rattle.std.specs.Prelude.{ℕ, ◌≤◌, ◌+◌, ◌*◌, Option, None, Some, Box}
+use Rattle.std.specs.declared.alloc.Global.{Global}
 
 -- the greatest number of bytes of a vector that is kept
 abbrev pub kept_each : ℕ
 kept_each = 8388608
 
--- the greatest number of bytes of both vectors
-abbrev pub kept_limit : ℕ
-kept_limit = 16777216
+-- and of all those of a kind that are kept for joined runs
+abbrev pub shelved_each : ℕ
+shelved_each = 16777216
 
--- the bytes of a vector of so many integers and one of so many truth values
+-- the greatest number of bytes that are kept for joined runs
+abbrev pub shelved_limit : ℕ
+shelved_limit = 33554432
+
+-- the greatest number of bytes in all
+abbrev pub kept_limit : ℕ
+kept_limit = 50331648
+
+-- the bytes of so many integers and so many truth values
 abbrev pub kept_bytes : ℕ → ℕ → ℕ
 kept_bytes ints bools = 8 * ints + bools
 
--- neither vector is larger than what may be kept
+-- the bytes that are kept for joined runs, if any were
+abbrev pub shelved_bytes : Option (Box ℕ Global) → ℕ
+shelved_bytes None = 0
+shelved_bytes (Some shelves) = shelves.value
+
+-- neither kind has more than may be kept
 pub record IsBounded (ints bools : ℕ) : Type 0 where
   pub few_ints : 8 * ints ≤ kept_each
   pub few_bools : bools ≤ kept_each
+
+-- neither shelf has more than may lie on it
+pub record IsShelved (ints bools : ℕ) : Type 0 where
+  pub few_ints : 8 * ints ≤ shelved_each
+  pub few_bools : bools ≤ shelved_each

@@ -16,17 +16,18 @@ mod spreads;
 
 use crate::judged::Judged;
 use crate::product::Product;
+use crate::shelves::Shelves;
 use cvl_text::{AskWord, Kind, OneWord, ThreeWord, TwoWord, Word};
 use group::{bools, ints};
 use permute_kernels::{
     BackPermute, Gather, Pack, PackLengths, PackSegments, Permute, PermuteWhole,
 };
 use reductions::{reduced_bools, reduced_ints};
-use scan_kernels::{
-    Distribute, Execution, Index, IndexSegments, Meter, Number, ReduceBoolSegments,
-    ReduceIntSegments, Repeat, ScanBoolSegments, ScanBools, ScanIntSegments, ScanInts, Select,
-    Truth,
+use scan_kernels::joined::{
+    Distribute, Index, IndexSegments, Number, ReduceBoolSegments, ReduceIntSegments, Repeat,
+    ScanBoolSegments, ScanBools, ScanIntSegments, ScanInts, Select, Truth,
 };
+use scan_kernels::{Execution, Meter};
 use segment_desc::{OutOfMemory, Segd};
 use std::alloc::Global;
 
@@ -45,15 +46,33 @@ pub fn run_joined(
     ensures makes { IfOk result (λ products. map effect_of products.items ≡ map made group.now) }
     ensures counted { CountsRun result meter.old meter.new }
 {
+    run_joined_with(execution, alloc, meter, &mut Shelves::new(), word, group)
+}
+
+/// `run_joined`, whose results may lie in vectors that were kept for joined runs.
+pub fn run_joined_with(
+    execution: &impl Execution,
+    alloc: Global,
+    meter: &mut Meter,
+    shelves: &mut Shelves,
+    word: Word,
+    group: &[Judged<'_>],
+) -> Result<Vec<Product>, OutOfMemory>
+    requires ready { All IsReady group.now }
+    requires alike { All (λ judged. word_of judged ≡ word) group.now }
+    requires kernel { IsTrue (runs_kernel word) }
+    ensures makes { IfOk result (λ products. map effect_of products.items ≡ map made group.now) }
+    ensures counted { CountsRun result meter.old meter.new }
+{
     match word {
         Word::Ask(word) => ask(execution, alloc, meter, word, group),
-        Word::One(inner) => one(execution, alloc, meter, inner, word, group),
-        Word::Two(inner) => two(execution, alloc, meter, inner, word, group),
-        Word::Three(inner) => three(execution, alloc, meter, inner, word, group),
-        Word::BckSeg(kind) => four(execution, alloc, meter, kind, word, group),
-        Word::DisZ => ints(execution, alloc, meter, Repeat, word, group),
-        Word::DisB => bools(execution, alloc, meter, Repeat, word, group),
-        Word::Ind => ints(execution, alloc, meter, Index, word, group),
+        Word::One(inner) => one(execution, alloc, meter, shelves, inner, word, group),
+        Word::Two(inner) => two(execution, alloc, meter, shelves, inner, word, group),
+        Word::Three(inner) => three(execution, alloc, meter, shelves, inner, word, group),
+        Word::BckSeg(kind) => four(execution, alloc, meter, shelves, kind, word, group),
+        Word::DisZ => ints(execution, alloc, meter, shelves, Repeat, word, group),
+        Word::DisB => bools(execution, alloc, meter, shelves, Repeat, word, group),
+        Word::Ind => ints(execution, alloc, meter, shelves, Index, word, group),
         Word::SetInts => unreachable!(),
         Word::SetBools => unreachable!(),
         Word::Alo => unreachable!(),
@@ -88,6 +107,7 @@ fn one(
     execution: &impl Execution,
     alloc: Global,
     meter: &mut Meter,
+    shelves: &mut Shelves,
     inner: OneWord,
     word: Word,
     group: &[Judged<'_>],
@@ -100,12 +120,12 @@ fn one(
     ensures counted { CountsRun result meter.old meter.new }
 {
     match inner {
-        OneWord::MapZ1(op) => ints(execution, alloc, meter, op, word, group),
-        OneWord::MapB1(op) => bools(execution, alloc, meter, op, word, group),
-        OneWord::Boo => bools(execution, alloc, meter, Truth, word, group),
-        OneWord::IntOf => ints(execution, alloc, meter, Number, word, group),
-        OneWord::ScanZ(op) => ints(execution, alloc, meter, ScanInts(op), word, group),
-        OneWord::ScanB(op) => bools(execution, alloc, meter, ScanBools(op), word, group),
+        OneWord::MapZ1(op) => ints(execution, alloc, meter, shelves, op, word, group),
+        OneWord::MapB1(op) => bools(execution, alloc, meter, shelves, op, word, group),
+        OneWord::Boo => bools(execution, alloc, meter, shelves, Truth, word, group),
+        OneWord::IntOf => ints(execution, alloc, meter, shelves, Number, word, group),
+        OneWord::ScanZ(op) => ints(execution, alloc, meter, shelves, ScanInts(op), word, group),
+        OneWord::ScanB(op) => bools(execution, alloc, meter, shelves, ScanBools(op), word, group),
         OneWord::Mov => unreachable!(),
         OneWord::MakeSegs => unreachable!(),
         OneWord::LenSegs => unreachable!(),
@@ -116,6 +136,7 @@ fn two(
     execution: &impl Execution,
     alloc: Global,
     meter: &mut Meter,
+    shelves: &mut Shelves,
     inner: TwoWord,
     word: Word,
     group: &[Judged<'_>],
@@ -127,22 +148,56 @@ fn two(
     ensures counted { CountsRun result meter.old meter.new }
 {
     match inner {
-        TwoWord::MapZ2(op) => ints(execution, alloc, meter, op, word, group),
-        TwoWord::CmpZ(op) => bools(execution, alloc, meter, op, word, group),
-        TwoWord::MapB2(op) => bools(execution, alloc, meter, op, word, group),
-        TwoWord::ScanSegZ(op) => ints(execution, alloc, meter, ScanIntSegments(op), word, group),
-        TwoWord::ScanSegB(op) => bools(execution, alloc, meter, ScanBoolSegments(op), word, group),
-        TwoWord::RedSegZ(op) => ints(execution, alloc, meter, ReduceIntSegments(op), word, group),
-        TwoWord::RedSegB(op) => bools(execution, alloc, meter, ReduceBoolSegments(op), word, group),
-        TwoWord::DisSeg(Kind::Z) => ints(execution, alloc, meter, Distribute, word, group),
-        TwoWord::DisSeg(Kind::B) => bools(execution, alloc, meter, Distribute, word, group),
-        TwoWord::Smp(Kind::Z) => ints(execution, alloc, meter, PermuteWhole, word, group),
-        TwoWord::Smp(Kind::B) => bools(execution, alloc, meter, PermuteWhole, word, group),
-        TwoWord::Bck(Kind::Z) => ints(execution, alloc, meter, Gather, word, group),
-        TwoWord::Bck(Kind::B) => bools(execution, alloc, meter, Gather, word, group),
-        TwoWord::Pck(Kind::Z) => ints(execution, alloc, meter, Pack, word, group),
-        TwoWord::Pck(Kind::B) => bools(execution, alloc, meter, Pack, word, group),
-        TwoWord::Pkl => ints(execution, alloc, meter, PackLengths, word, group),
+        TwoWord::MapZ2(op) => ints(execution, alloc, meter, shelves, op, word, group),
+        TwoWord::CmpZ(op) => bools(execution, alloc, meter, shelves, op, word, group),
+        TwoWord::MapB2(op) => bools(execution, alloc, meter, shelves, op, word, group),
+        TwoWord::ScanSegZ(op) => ints(
+            execution,
+            alloc,
+            meter,
+            shelves,
+            ScanIntSegments(op),
+            word,
+            group,
+        ),
+        TwoWord::ScanSegB(op) => bools(
+            execution,
+            alloc,
+            meter,
+            shelves,
+            ScanBoolSegments(op),
+            word,
+            group,
+        ),
+        TwoWord::RedSegZ(op) => ints(
+            execution,
+            alloc,
+            meter,
+            shelves,
+            ReduceIntSegments(op),
+            word,
+            group,
+        ),
+        TwoWord::RedSegB(op) => bools(
+            execution,
+            alloc,
+            meter,
+            shelves,
+            ReduceBoolSegments(op),
+            word,
+            group,
+        ),
+        TwoWord::DisSeg(Kind::Z) => ints(execution, alloc, meter, shelves, Distribute, word, group),
+        TwoWord::DisSeg(Kind::B) => bools(
+            execution, alloc, meter, shelves, Distribute, word, group,
+        ),
+        TwoWord::Smp(Kind::Z) => ints(execution, alloc, meter, shelves, PermuteWhole, word, group),
+        TwoWord::Smp(Kind::B) => bools(execution, alloc, meter, shelves, PermuteWhole, word, group),
+        TwoWord::Bck(Kind::Z) => ints(execution, alloc, meter, shelves, Gather, word, group),
+        TwoWord::Bck(Kind::B) => bools(execution, alloc, meter, shelves, Gather, word, group),
+        TwoWord::Pck(Kind::Z) => ints(execution, alloc, meter, shelves, Pack, word, group),
+        TwoWord::Pck(Kind::B) => bools(execution, alloc, meter, shelves, Pack, word, group),
+        TwoWord::Pkl => ints(execution, alloc, meter, shelves, PackLengths, word, group),
     }
 }
 
@@ -150,6 +205,7 @@ fn three(
     execution: &impl Execution,
     alloc: Global,
     meter: &mut Meter,
+    shelves: &mut Shelves,
     inner: ThreeWord,
     word: Word,
     group: &[Judged<'_>],
@@ -161,13 +217,29 @@ fn three(
     ensures counted { CountsRun result meter.old meter.new }
 {
     match inner {
-        ThreeWord::Sel(Kind::Z) => ints(execution, alloc, meter, Select, word, group),
-        ThreeWord::Sel(Kind::B) => bools(execution, alloc, meter, Select, word, group),
-        ThreeWord::IndSeg => ints(execution, alloc, meter, IndexSegments, word, group),
-        ThreeWord::SmpSeg(Kind::Z) => ints(execution, alloc, meter, Permute, word, group),
-        ThreeWord::SmpSeg(Kind::B) => bools(execution, alloc, meter, Permute, word, group),
-        ThreeWord::PckSeg(Kind::Z) => ints(execution, alloc, meter, PackSegments, word, group),
-        ThreeWord::PckSeg(Kind::B) => bools(execution, alloc, meter, PackSegments, word, group),
+        ThreeWord::Sel(Kind::Z) => ints(execution, alloc, meter, shelves, Select, word, group),
+        ThreeWord::Sel(Kind::B) => bools(execution, alloc, meter, shelves, Select, word, group),
+        ThreeWord::IndSeg => ints(execution, alloc, meter, shelves, IndexSegments, word, group),
+        ThreeWord::SmpSeg(Kind::Z) => ints(execution, alloc, meter, shelves, Permute, word, group),
+        ThreeWord::SmpSeg(Kind::B) => bools(execution, alloc, meter, shelves, Permute, word, group),
+        ThreeWord::PckSeg(Kind::Z) => ints(
+            execution,
+            alloc,
+            meter,
+            shelves,
+            PackSegments,
+            word,
+            group,
+        ),
+        ThreeWord::PckSeg(Kind::B) => bools(
+            execution,
+            alloc,
+            meter,
+            shelves,
+            PackSegments,
+            word,
+            group,
+        ),
     }
 }
 
@@ -175,6 +247,7 @@ fn four(
     execution: &impl Execution,
     alloc: Global,
     meter: &mut Meter,
+    shelves: &mut Shelves,
     kind: Kind,
     word: Word,
     group: &[Judged<'_>],
@@ -186,7 +259,7 @@ fn four(
     ensures counted { CountsRun result meter.old meter.new }
 {
     match kind {
-        Kind::Z => ints(execution, alloc, meter, BackPermute, word, group),
-        Kind::B => bools(execution, alloc, meter, BackPermute, word, group),
+        Kind::Z => ints(execution, alloc, meter, shelves, BackPermute, word, group),
+        Kind::B => bools(execution, alloc, meter, shelves, BackPermute, word, group),
     }
 }

@@ -152,6 +152,28 @@ pub fn apply_with(
     Ok(reply)
 }
 
+/// `apply` of what a joined run made, and the vector of the value that was replaced is kept for the next of these. In a block there has
+/// to be a change left.
+pub fn apply_joined(
+    spare: &mut Spare,
+    memory: &mut Memory,
+    to: Option<Name>,
+    product: Product,
+) -> Result<Reply, OutOfMemory>
+    requires fits { IsFittingEffect memory.old.limit (effect_of product) }
+    requires may_change { MayChange memory.old }
+    ensures ok { IfOk result (λ reply. applied memory.old to (effect_of product)
+        ≡ record { memory = memory.new; answer = answer_of reply }) }
+    ensures grows { OnErr result (Grows memory.old to (effect_of product)) }
+    ensures err { OnErr result (memory.new ≡ memory.old) }
+{
+    let (reply, before) = settle(memory, to, product)?;
+    if let Some(value) = before {
+        spare.keep_for_joined(value);
+    }
+    Ok(reply)
+}
+
 /// Runs a call on a memory: `work`, and then `apply`. A fault is a reply, and it and a want of memory leave the memory as it was.
 /// `fre_fov`, `len_fov` and `ext_vuz` take no memory, and are always answered. The meter rises by one where a kernel ran: with a
 /// reply, where the call runs one and no fault of 1 to 8 was found. In a block there has to be a change left.

@@ -1,9 +1,10 @@
-//! Vectors that were replaced, kept for the next results.
+//! Vectors that were replaced, kept for the next results: the last of each kind for a call by itself, and more for a joined run.
 
-ghost use Rattle.std.specs.Prelude.{◌≡◌, ◌≤◌};
+ghost use Rattle.std.specs.Prelude.{◌≡◌, ◌+◌, ◌≤◌};
 ghost use Rattle.cvl_calls.specs.Spares.{kept_limit};
 
-use scan_kernels::{Kept, Source};
+use crate::shelves::Shelves;
+use scan_kernels::{Kept, Source, WORTH_A_PLACE};
 use std::alloc::{AllocError, Global};
 use std::marker::Model;
 use std::mem;
@@ -16,21 +17,23 @@ const KEPT_INTS: usize = 1_048_576;
 const KEPT_BOOLS: usize = 8_388_608;
 
 /// What stores replaced, for the next results: at most one vector of integers and one of truth values, of at most 8 MiB
-/// each. It lies outside the memories, and what calls answer and store does not hang on it. To a contract it is the number of
+/// each, and beside them at most 64 of each kind, of at most 16 MiB together, which joined runs take and the stores of what they made
+/// leave. It lies outside the memories, and what calls answer and store does not hang on it. To a contract it is the number of
 /// bytes that it keeps.
 #[derive(Drop)]
 pub struct Spare {
     ints: Vec<i64>,
     bools: Vec<bool>,
+    shelves: Shelves,
 }
 
 impl Model for Spare {
-    ghost use Rattle.std.specs.Prelude.{ℕ, vec_capacity};
+    ghost use Rattle.std.specs.Prelude.{ℕ, ◌+◌, vec_capacity};
     ghost use Rattle.cvl_calls.specs.Spares.{kept_bytes, IsBounded};
 
     ghost Value = { ℕ };
 
-    ghost view = { λ s. kept_bytes (vec_capacity s.ints) (vec_capacity s.bools) };
+    ghost view = { λ s. kept_bytes (vec_capacity s.ints) (vec_capacity s.bools) + s.shelves };
 
     ghost invariant = { λ s. IsBounded (vec_capacity s.ints) (vec_capacity s.bools) };
 }
@@ -43,15 +46,16 @@ impl Spare {
         Spare {
             ints: Vec::new(alloc),
             bools: Vec::new(alloc),
+            shelves: Shelves::new(),
         }
     }
 
-    /// How many bytes are kept, at most 16,777,216.
+    /// How many bytes are kept, at most 50,331,648.
     pub fn bytes(&self) -> usize
         ensures bytes { result ≡ self.now }
         ensures bounded { result ≤ kept_limit }
     {
-        8 * self.ints.capacity() + self.bools.capacity()
+        8 * self.ints.capacity() + self.bools.capacity() + self.shelves.bytes()
     }
 
     /// Keeps the vector of a value that was replaced, in place of the one that it has, unless it is too large. Segment lists are
@@ -71,6 +75,53 @@ impl Spare {
             }
             Value::Segs(_) => {}
         }
+    }
+
+    /// Keeps the vector of a value that was replaced by what a joined run made, for the next of these, if it is large enough to be
+    /// worth it and there is a place. Else it is kept as any other.
+    #[inline(always)]
+    pub(crate) fn keep_for_joined(&mut self, value: Value) {
+        match value {
+            Value::Ints(vector) => self.shelve_ints(vector),
+            Value::Bools(vector) => self.shelve_bools(vector),
+            Value::Segs(_) => {}
+        }
+    }
+
+    #[inline(always)]
+    fn shelve_ints(&mut self, vector: Vec<i64>) {
+        if vector.capacity() < WORTH_A_PLACE {
+            self.keep(Value::Ints(vector));
+            return;
+        }
+        if let Err(vector) = self.shelves.keep_ints(vector) {
+            self.keep(Value::Ints(vector));
+        }
+    }
+
+    #[inline(always)]
+    fn shelve_bools(&mut self, vector: Vec<bool>) {
+        if vector.capacity() < WORTH_A_PLACE {
+            self.keep(Value::Bools(vector));
+            return;
+        }
+        if let Err(vector) = self.shelves.keep_bools(vector) {
+            self.keep(Value::Bools(vector));
+        }
+    }
+
+    /// Takes out the vectors that are kept for joined runs, and leaves none.
+    #[inline(always)]
+    pub fn take_shelves(&mut self) -> Shelves
+        ensures { self.old ≡ self.new + result }
+    {
+        mem::replace(&mut self.shelves, Shelves::new())
+    }
+
+    /// Puts vectors in the place of those that are kept for joined runs.
+    #[inline(always)]
+    pub fn put_shelves(&mut self, shelves: Shelves) {
+        self.shelves = shelves;
     }
 }
 

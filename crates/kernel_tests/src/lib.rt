@@ -7,6 +7,8 @@ mod by_chunks;
 #[cfg(test)]
 mod cut;
 #[cfg(test)]
+mod joined_parts;
+#[cfg(test)]
 mod kernels;
 #[cfg(test)]
 mod made;

@@ -4,6 +4,7 @@ pub mod Carried
 pub mod CarriedOn
 pub mod Counting
 pub mod CutLists
+pub mod InTurn
 pub mod IntegerLaws
 pub mod JoinedPairs
 pub mod Joining
@@ -22,6 +23,7 @@ pub mod Places
 pub mod ReducedChunks
 pub mod ReducedParts
 pub mod ResultLengths
+pub mod RowLists
 pub mod Scanned
 pub mod SegmentLists
 pub mod SegmentMoves

@@ -12,4 +12,6 @@ pub mod Pairs
 pub mod Parts
 pub mod Permuted
 pub mod Prefixes
+pub mod RowLists
 pub mod Segmented
+pub mod Shelves

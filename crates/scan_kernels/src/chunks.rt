@@ -12,8 +12,8 @@ use crate::source::Source;
 use std::alloc::AllocError;
 
 /// From how many items on it repays to start threads that write over memory that is in use already: found by `bench chunks` on
-/// four processors, where they lost at half as many.
-const WRITES_PAY: usize = 1_000_000;
+/// four processors, where the scan of one segment lost at half as many. What goes item by item gained half there.
+const WRITES_PAY: usize = 524_288;
 
 /// The size of the chunks in which a kernel makes so many items one by one, if it goes by chunks: where they pay, into memory that
 /// is in use already, since into fresh memory one thread is as fast as many, most of whose time goes into getting its pages.
@@ -31,9 +31,9 @@ pub(crate) fn write_size<T: Copy>(
     chunk_size(execution, meter, count, pays)
 }
 
-/// From how many items on it repays to start threads that fill memory that is in use already and read nothing: they lost at
-/// 1,000,000, by `bench chunks` on four processors, and nearly halved the time at 16,000,000.
-const FILLS_PAY: usize = 4_000_000;
+/// From how many items on it repays to start threads that fill memory that is in use already and read nothing: found by
+/// `bench chunks` on four processors, where they were level at half as many.
+const FILLS_PAY: usize = 1_000_000;
 
 /// The size of the chunks in which a kernel fills a vector with so many items, if it goes by chunks.
 #[inline(always)]
@@ -202,9 +202,8 @@ pub fn pack_size(execution: &impl Execution, meter: &Meter, count: usize) -> Opt
 }
 
 /// From how many items on it repays to start threads that each go through a whole index and mark what falls into their part: found by
-/// timing four parts one after another, on processors that other work shared. A quarter of that was less than the test in one thread
-/// from 1,000,000 items on, but all of it nearly three times as much up to 4,000,000, and no more at 16,000,000.
-const PERMUTATION_TESTS_PAY: usize = 4_000_000;
+/// `bench chunks` on four processors, where they were level at half as many, with nearly three times the processor time of one.
+const PERMUTATION_TESTS_PAY: usize = 2_000_000;
 
 /// The size of the chunks in which so many indices are tested for a permutation, if it goes by chunks. There are few, since each
 /// goes through the whole index.
@@ -222,8 +221,8 @@ pub fn permutation_test_size(
 }
 
 /// From how many items on it repays to start threads that read an index from one end to the other: found by `bench chunks` on four
-/// processors that other work shared, where they lost at 1,000,000, and were half as fast again at 2,000,000.
-const PLACES_TESTS_PAY: usize = 2_000_000;
+/// processors, where they were level at half as many.
+const PLACES_TESTS_PAY: usize = 524_288;
 
 /// The size of the chunks in which so many indices are tested for places, if it goes by chunks. There are few, since what is known
 /// of each lies on the stack.
@@ -234,6 +233,29 @@ pub fn places_test_size(execution: &impl Execution, meter: &Meter, count: usize)
     ensures few { IfSome result (λ size. count ≤ MOST_CHUNKS * size) }
 {
     few_size(execution, meter, count, count >= PLACES_TESTS_PAY)
+}
+
+/// Whether a joined run may go by chunks, before its length is known: by a size that a caller made smaller, or where so many items
+/// lie ready that the start of threads may be repaid.
+#[inline(always)]
+pub(crate) fn may_go_by_chunks(meter: &Meter, ready: usize) -> bool {
+    meter.chunk() < DEFAULT_CHUNK || ready >= WRITES_PAY
+}
+
+/// How many parts of a joined run make a chunk, where they have so many items together, if they go by chunks.
+pub(crate) fn joined_size(
+    execution: &impl Execution,
+    meter: &Meter,
+    parts: usize,
+    count: usize,
+    ready: bool,
+) -> Option<usize>
+    ensures size { IfSome result (λ size. 0 < size) }
+    ensures heeded { HeedsChunk meter.now count result }
+{
+    let size = chunk_size(execution, meter, count, ready && count >= WRITES_PAY)?;
+    let chunks = count.div_ceil(size).max(1);
+    Some(parts.div_ceil(chunks).max(1))
 }
 
 /// The integers that a kernel makes item by item, in chunks of a size.

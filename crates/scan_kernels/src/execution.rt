@@ -3,12 +3,18 @@
 //! A policy has a method for each kind of work that goes by chunks. All types of a method are known ones, since what is handed
 //! to threads may rest on no bound of a type parameter.
 
-ghost use Rattle.std.specs.Prelude.{◌≡◌, ◌<◌, ◌≤◌, length};
+ghost use Rattle.std.specs.Prelude.{◌≡◌, ◌<◌, ◌≤◌, length, All};
 ghost use Rattle.std.specs.Thread.{IsSync};
+ghost use Rattle.scan_kernels.specs.RowLists.{AreAsLong, AreMade};
 ghost use Rattle.scan_kernels.specs.Lists.{FitBools, FitInts, bools_of, ints_of};
 
-use crate::in_order::{write_bools_in_order, write_ints_in_order};
-use crate::in_threads::{write_bools_in_threads, write_ints_in_threads};
+use crate::in_order::{
+    write_bools_in_order, write_each_bools_in_order, write_each_ints_in_order, write_ints_in_order,
+};
+use crate::in_threads::{
+    write_bools_in_threads, write_each_bools_in_threads, write_each_ints_in_threads,
+    write_ints_in_threads,
+};
 use crate::rows::{BoolRow, IntRow};
 use rayon::current_num_threads;
 use std::marker::Sync;
@@ -39,6 +45,22 @@ pub trait Execution {
         requires fits { FitBools row }
         requires long { length list.old ≡ length (bools_of row) }
         ensures { list.new ≡ bools_of row.entry };
+
+    /// Writes the integers of each row over the vector at its place, which has as many items, in chunks of so many vectors.
+    fn write_each_ints(&self, rows: &[IntRow<'_>], size: usize, lists: &mut [Vec<i64>])
+        requires shared { IsSync Self.Shared.row }
+        requires size { 0 < size }
+        requires fits { All FitInts rows.now }
+        requires long { AreAsLong ints_of rows.now 0 lists.old }
+        ensures { AreMade ints_of rows.now 0 lists.old lists.new };
+
+    /// Writes the truth values of each row over the vector at its place, which has as many items, in chunks of so many vectors.
+    fn write_each_bools(&self, rows: &[BoolRow<'_>], size: usize, lists: &mut [Vec<bool>])
+        requires shared { IsSync Self.Shared.row }
+        requires size { 0 < size }
+        requires fits { All FitBools rows.now }
+        requires long { AreAsLong bools_of rows.now 0 lists.old }
+        ensures { AreMade bools_of rows.now 0 lists.old lists.new };
 }
 
 /// In threads that the runtime starts. A chunk whose thread cannot be started is run by the calling thread.
@@ -55,6 +77,14 @@ impl<R: Threads + Sync> Execution for R {
 
     fn write_bools(&self, row: BoolRow<'_>, size: usize, list: &mut [bool]) {
         write_bools_in_threads(self, row, size, list)
+    }
+
+    fn write_each_ints(&self, rows: &[IntRow<'_>], size: usize, lists: &mut [Vec<i64>]) {
+        write_each_ints_in_threads(self, rows, size, lists)
+    }
+
+    fn write_each_bools(&self, rows: &[BoolRow<'_>], size: usize, lists: &mut [Vec<bool>]) {
+        write_each_bools_in_threads(self, rows, size, lists)
     }
 }
 
@@ -76,5 +106,13 @@ impl Execution for Sequential {
 
     fn write_bools(&self, row: BoolRow<'_>, size: usize, list: &mut [bool]) {
         write_bools_in_order(row, size, list)
+    }
+
+    fn write_each_ints(&self, rows: &[IntRow<'_>], size: usize, lists: &mut [Vec<i64>]) {
+        write_each_ints_in_order(rows, size, lists)
+    }
+
+    fn write_each_bools(&self, rows: &[BoolRow<'_>], size: usize, lists: &mut [Vec<bool>]) {
+        write_each_bools_in_order(rows, size, lists)
     }
 }

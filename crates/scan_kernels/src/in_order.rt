@@ -1,8 +1,10 @@
 //! Work by chunks in the calling thread, one chunk after another.
 
-ghost use Rattle.std.specs.Prelude.{◌≡◌, ◌+◌, ◌<◌, ◌≤◌, length};
+ghost use Rattle.std.specs.Prelude.{◌≡◌, ◌+◌, ◌<◌, ◌≤◌, length, All};
+ghost use Rattle.scan_kernels.specs.RowLists.{AreAsLong, AreMade};
 ghost use Rattle.scan_kernels.specs.Lists.{FitBools, FitInts, bools_of, ints_of};
 
+use crate::row_lists::{write_bool_lists, write_int_lists};
 use crate::rows::{BoolRow, IntRow, write_bools, write_ints};
 
 /// Writes integers over a list of as many, in chunks of a size.
@@ -31,6 +33,36 @@ pub fn write_bools_in_order(row: BoolRow<'_>, size: usize, list: &mut [bool])
     while start < list.len() {
         let end = end_of(start, size, list.len());
         write_bools(row, start, &mut list[start..end]);
+        start = end;
+    }
+}
+
+/// Writes the integers of the rows over vectors of as many, in chunks of so many vectors.
+pub fn write_each_ints_in_order(rows: &[IntRow<'_>], size: usize, lists: &mut [Vec<i64>])
+    requires size { 0 < size }
+    requires fits { All FitInts rows.now }
+    requires long { AreAsLong ints_of rows.now 0 lists.old }
+    ensures { AreMade ints_of rows.now 0 lists.old lists.new }
+{
+    let mut start = 0;
+    while start < lists.len() {
+        let end = end_of(start, size, lists.len());
+        write_int_lists(rows, start, &mut lists[start..end]);
+        start = end;
+    }
+}
+
+/// Writes the truth values of the rows over vectors of as many, in chunks of so many vectors.
+pub fn write_each_bools_in_order(rows: &[BoolRow<'_>], size: usize, lists: &mut [Vec<bool>])
+    requires size { 0 < size }
+    requires fits { All FitBools rows.now }
+    requires long { AreAsLong bools_of rows.now 0 lists.old }
+    ensures { AreMade bools_of rows.now 0 lists.old lists.new }
+{
+    let mut start = 0;
+    while start < lists.len() {
+        let end = end_of(start, size, lists.len());
+        write_bool_lists(rows, start, &mut lists[start..end]);
         start = end;
     }
 }

@@ -1,8 +1,14 @@
 //! Work by chunks in threads that a runtime starts.
 
-ghost use Rattle.std.specs.Prelude.{◌≡◌, ◌+◌, ◌<◌, ◌≤◌, ◌^◌, length, take, drop};
+ghost use Rattle.std.specs.Prelude.{◌≡◌, ◌+◌, ◌<◌, ◌≤◌, ◌^◌, length, take, drop, All};
+ghost use Rattle.scan_kernels.specs.RowLists.{AreAsLong, AreMade};
 ghost use Rattle.scan_kernels.specs.Lists.{FitBools, FitInts, bools_of, ints_of};
 
+use crate::in_turn::{
+    are_few, write_bools_in_turn, write_each_bools_in_turn, write_each_ints_in_turn,
+    write_ints_in_turn,
+};
+use crate::row_lists::{write_bool_lists, write_int_lists};
 use crate::rows::{BoolRow, IntRow, write_bools, write_ints};
 use rayon::prelude::*;
 use std::thread::Threads;
@@ -19,6 +25,9 @@ pub fn write_ints_in_threads<R: Threads + Sync>(
     requires long { length list.old ≡ length (ints_of row) }
     ensures { list.new ≡ ints_of row.entry }
 {
+    if are_few(list.len(), size) {
+        return write_ints_in_turn(rt, row, size, 0, list);
+    }
     par_chunks_mut_for_each(
         rt,
         list,
@@ -44,6 +53,9 @@ pub fn write_bools_in_threads<R: Threads + Sync>(
     requires long { length list.old ≡ length (bools_of row) }
     ensures { list.new ≡ bools_of row.entry }
 {
+    if are_few(list.len(), size) {
+        return write_bools_in_turn(rt, row, size, 0, list);
+    }
     par_chunks_mut_for_each(
         rt,
         list,
@@ -53,6 +65,62 @@ pub fn write_bools_in_threads<R: Threads + Sync>(
             ensures { part.new ≡ take (length part.old) (drop start (bools_of row.entry)) }
         {
             write_bools(row, start, part);
+        },
+    );
+}
+
+/// Writes the integers of the rows over vectors of as many, in chunks of so many vectors.
+pub fn write_each_ints_in_threads<R: Threads + Sync>(
+    rt: &R,
+    rows: &[IntRow<'_>],
+    size: usize,
+    lists: &mut [Vec<i64>],
+)
+    requires size { 0 < size }
+    requires fits { All FitInts rows.now }
+    requires long { AreAsLong ints_of rows.now 0 lists.old }
+    ensures { AreMade ints_of rows.now 0 lists.old lists.new }
+{
+    if are_few(lists.len(), size) {
+        return write_each_ints_in_turn(rt, rows, size, 0, lists);
+    }
+    par_chunks_mut_for_each(
+        rt,
+        lists,
+        size,
+        |start: usize, part: &mut [Vec<i64>]|
+            requires { All FitInts rows.now × AreAsLong ints_of rows.now start part.now }
+            ensures { AreMade ints_of rows.entry.now start part.old part.new }
+        {
+            write_int_lists(rows, start, part);
+        },
+    );
+}
+
+/// Writes the truth values of the rows over vectors of as many, in chunks of so many vectors.
+pub fn write_each_bools_in_threads<R: Threads + Sync>(
+    rt: &R,
+    rows: &[BoolRow<'_>],
+    size: usize,
+    lists: &mut [Vec<bool>],
+)
+    requires size { 0 < size }
+    requires fits { All FitBools rows.now }
+    requires long { AreAsLong bools_of rows.now 0 lists.old }
+    ensures { AreMade bools_of rows.now 0 lists.old lists.new }
+{
+    if are_few(lists.len(), size) {
+        return write_each_bools_in_turn(rt, rows, size, 0, lists);
+    }
+    par_chunks_mut_for_each(
+        rt,
+        lists,
+        size,
+        |start: usize, part: &mut [Vec<bool>]|
+            requires { All FitBools rows.now × AreAsLong bools_of rows.now start part.now }
+            ensures { AreMade bools_of rows.entry.now start part.old part.new }
+        {
+            write_bool_lists(rows, start, part);
         },
     );
 }

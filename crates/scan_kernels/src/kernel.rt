@@ -8,6 +8,7 @@ ghost use Rattle.scan_kernels.specs.Parts.{parts_made};
 
 use crate::execution::Execution;
 use crate::meter::Meter;
+use crate::shelf::Shelf;
 use segment_desc::OutOfMemory;
 use std::alloc::{AllocError, Global};
 
@@ -22,8 +23,8 @@ pub trait Kernel<P>: Copy {
     /// What it makes of a part.
     ghost makes: { Self → P → List Self.Item };
 
-    /// The result of a part, in a vector of its final size.
-    fn run(self, alloc: Global, part: &P) -> Result<Vec<Self::Item>, AllocError>
+    /// The result of a part, in a vector of its final size, off the shelf where one lies there.
+    fn run(self, shelf: &mut Shelf<Self::Item>, part: &P) -> Result<Vec<Self::Item>, AllocError>
         requires { Takes self part.now }
         ensures items { IfOk result (λ v. v.items ≡ makes self part.now) }
         ensures exact { IfOk result (λ v. IsExact v) };
@@ -32,7 +33,11 @@ pub trait Kernel<P>: Copy {
 /// A kernel that runs over joined operands.
 pub trait JoinedKernel<P>: Kernel<P> {
     /// The results of all parts, one after another.
-    fn run_each(self, alloc: Global, parts: &[P]) -> Result<Vec<Vec<Self::Item>>, AllocError>
+    fn run_each(
+        self,
+        shelf: &mut Shelf<Self::Item>,
+        parts: &[P],
+    ) -> Result<Vec<Vec<Self::Item>>, AllocError>
         requires { All (Self.Takes self) parts.now }
         ensures parts { IfOk result (λ made. parts_made made.items ≡ map (Self.makes self) parts.now) }
         ensures exact { IfOk result (λ made. All IsExact made.items) };
@@ -52,7 +57,7 @@ pub fn run_joined<P, K: JoinedKernel<P>>(
     ensures exact { IfOk result (λ made. All IsExact made.items) }
     ensures counted { CountsRun result meter.old meter.new }
 {
-    let made = kernel.run_each(alloc, parts)?;
+    let made = kernel.run_each(&mut Shelf::new(alloc), parts)?;
     meter.raise();
     Ok(made)
 }
@@ -60,7 +65,7 @@ pub fn run_joined<P, K: JoinedKernel<P>>(
 /// The results of all parts, where the operation is chosen.
 #[inline(always)]
 pub fn run_parts<P, K: Kernel<P>>(
-    alloc: Global,
+    shelf: &mut Shelf<K::Item>,
     kernel: K,
     parts: &[P],
 ) -> Result<Vec<Vec<K::Item>>, AllocError>
@@ -68,9 +73,9 @@ pub fn run_parts<P, K: Kernel<P>>(
     ensures parts { IfOk result (λ made. parts_made made.items ≡ map (K.makes kernel) parts.now) }
     ensures exact { IfOk result (λ made. All IsExact made.items) }
 {
-    let mut made = Vec::with_capacity(alloc, parts.len())?;
+    let mut made = Vec::with_capacity(shelf.allocator(), parts.len())?;
     for part in parts {
-        made.push_reserved(kernel.run(alloc, part)?);
+        made.push_reserved(kernel.run(shelf, part)?);
     }
     Ok(made)
 }

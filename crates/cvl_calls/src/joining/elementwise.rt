@@ -9,7 +9,7 @@ ghost use Rattle.cvl_text.specs.declared.word.Word.TheVariants as words;
 use crate::joining::group::Joins;
 use crate::judged::Judged;
 use cvl_text::{B1, B2, Cmp, Z1, Z2};
-use scan_kernels::{Number, Select, Truth};
+use scan_kernels::joined::{Number, Select, Truth};
 
 // `OP_wuz` of one vector.
 impl<'a> Joins<'a, &'a [i64], i64> for Z1 {

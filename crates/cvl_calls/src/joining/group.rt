@@ -1,6 +1,6 @@
 //! What a joined kernel takes of the calls of one word, and the run of it.
 
-ghost use Rattle.std.specs.Prelude.{[], ◌≡◌, ◌≤◌, List, map, All, IfOk, vec_capacity, vec_len};
+ghost use Rattle.std.specs.Prelude.{[], ◌≡◌, ◌≤◌, List, length, map, All, IfOk, vec_capacity, vec_len};
 ghost use Rattle.vector_memory.specs.Contents.{Bools, Content, Ints, content_of};
 ghost use Rattle.scan_kernels.specs.Metering.{CountsRun};
 ghost use Rattle.scan_kernels.specs.Parts.{parts_made};
@@ -10,8 +10,11 @@ ghost use Rattle.cvl_calls.specs.Outcomes.{Stores, effect_of};
 
 use crate::judged::Judged;
 use crate::product::Product;
+use crate::shelves::Shelves;
 use cvl_text::Word;
-use scan_kernels::{Execution, JoinedKernel, Kernel, Meter, run_joined};
+use scan_kernels::{
+    BoolKernel, Execution, IntKernel, Kernel, Meter, run_joined_bools, run_joined_ints,
+};
 use segment_desc::OutOfMemory;
 use std::alloc::Global;
 use vector_memory::Value;
@@ -90,11 +93,32 @@ fn products_of<T: Stored>(mut products: Vec<Product>, vectors: Vec<Vec<T>>) -> V
     products
 }
 
-/// One kernel run over the joined operands of calls of this word, which store integers.
-pub(crate) fn ints<'a, P: Copy, K: Joins<'a, P, i64> + JoinedKernel<P>>(
+/// One kernel run over the operands of the calls, whose results take vectors that were kept.
+fn int_vectors<'a, P, K: IntKernel<'a, P>>(
     execution: &impl Execution,
     alloc: Global,
     meter: &mut Meter,
+    shelves: &mut Shelves,
+    kernel: K,
+    parts: &[P],
+) -> Result<Vec<Vec<i64>>, OutOfMemory>
+    requires { All (K.Takes kernel) parts.now }
+    ensures parts { IfOk result (λ made. parts_made made.items ≡ map (K.makes kernel) parts.now) }
+    ensures count { IfOk result (λ made. vec_len made ≡ length parts.now) }
+    ensures counted { CountsRun result meter.old meter.new }
+{
+    let mut shelf = shelves.take_ints(alloc);
+    let made = run_joined_ints(execution, &mut shelf, meter, kernel, parts);
+    shelves.put_ints(shelf);
+    made
+}
+
+/// One kernel run over the joined operands of calls of this word, which store integers.
+pub(crate) fn ints<'a, P: Copy, K: Joins<'a, P, i64> + IntKernel<'a, P>>(
+    execution: &impl Execution,
+    alloc: Global,
+    meter: &mut Meter,
+    shelves: &mut Shelves,
     kernel: K,
     word: Word,
     group: &[Judged<'a>],
@@ -107,15 +131,36 @@ pub(crate) fn ints<'a, P: Copy, K: Joins<'a, P, i64> + JoinedKernel<P>>(
 {
     let products = Vec::with_capacity(alloc, group.len())?;
     let parts = parts_of(alloc, kernel, group)?;
-    let vectors = run_joined(execution, alloc, meter, kernel, &parts)?;
+    let vectors = int_vectors(execution, alloc, meter, shelves, kernel, &parts)?;
     Ok(products_of(products, vectors))
 }
 
-/// One kernel run over the joined operands of calls of this word, which store truth values.
-pub(crate) fn bools<'a, P: Copy, K: Joins<'a, P, bool> + JoinedKernel<P>>(
+/// One kernel run over the operands of the calls, whose results take vectors that were kept.
+fn bool_vectors<'a, P, K: BoolKernel<'a, P>>(
     execution: &impl Execution,
     alloc: Global,
     meter: &mut Meter,
+    shelves: &mut Shelves,
+    kernel: K,
+    parts: &[P],
+) -> Result<Vec<Vec<bool>>, OutOfMemory>
+    requires { All (K.Takes kernel) parts.now }
+    ensures parts { IfOk result (λ made. parts_made made.items ≡ map (K.makes kernel) parts.now) }
+    ensures count { IfOk result (λ made. vec_len made ≡ length parts.now) }
+    ensures counted { CountsRun result meter.old meter.new }
+{
+    let mut shelf = shelves.take_bools(alloc);
+    let made = run_joined_bools(execution, &mut shelf, meter, kernel, parts);
+    shelves.put_bools(shelf);
+    made
+}
+
+/// One kernel run over the joined operands of calls of this word, which store truth values.
+pub(crate) fn bools<'a, P: Copy, K: Joins<'a, P, bool> + BoolKernel<'a, P>>(
+    execution: &impl Execution,
+    alloc: Global,
+    meter: &mut Meter,
+    shelves: &mut Shelves,
     kernel: K,
     word: Word,
     group: &[Judged<'a>],
@@ -128,6 +173,6 @@ pub(crate) fn bools<'a, P: Copy, K: Joins<'a, P, bool> + JoinedKernel<P>>(
 {
     let products = Vec::with_capacity(alloc, group.len())?;
     let parts = parts_of(alloc, kernel, group)?;
-    let vectors = run_joined(execution, alloc, meter, kernel, &parts)?;
+    let vectors = bool_vectors(execution, alloc, meter, shelves, kernel, &parts)?;
     Ok(products_of(products, vectors))
 }

@@ -14,7 +14,8 @@ ghost use Rattle.cvl_calls.specs.Outcomes.{Answers, effect_of};
 use crate::judged::Judged;
 use crate::product::Product;
 use cvl_text::{Reply, ScanB, ScanZ};
-use scan_kernels::{Execution, Meter, reduce_whole_b_joined, reduce_whole_z_joined};
+use scan_kernels::joined::{reduce_whole_b_joined, reduce_whole_z_joined};
+use scan_kernels::{Execution, Meter};
 use segment_desc::OutOfMemory;
 use std::alloc::Global;
 

@@ -6,7 +6,7 @@ ghost use Rattle.cvl_text.specs.declared.word.Word.TheVariants as words;
 
 use crate::joining::group::Joins;
 use crate::judged::Judged;
-use scan_kernels::{
+use scan_kernels::joined::{
     ReduceBoolSegments, ReduceIntSegments, ScanBoolSegments, ScanBools, ScanIntSegments, ScanInts,
 };
 use segment_desc::Segd;

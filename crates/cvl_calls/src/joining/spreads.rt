@@ -8,7 +8,7 @@ ghost use Rattle.cvl_text.specs.declared.word.Word.TheVariants as words;
 use crate::joining::group::Joins;
 use crate::judged::Judged;
 use crate::operands::Vector;
-use scan_kernels::{Distribute, Index, IndexSegments, Repeat};
+use scan_kernels::joined::{Distribute, Index, IndexSegments, Repeat};
 use segment_desc::Segd;
 
 // `dis_vuz`.

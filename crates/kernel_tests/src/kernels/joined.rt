@@ -6,34 +6,12 @@ ghost use Rattle.item_operations.specs.IntegerOps.{IsAllowed};
 
 mod elementwise;
 mod segments;
+mod shelves;
 mod wholes;
 
-use scan_kernels::{Execution, JoinedKernel, Meter, Z2, divisors_ok, run_joined};
+use scan_kernels::{Z2, divisors_ok};
 use segment_desc::Segd;
-use std::alloc::Global;
 use std::process::Abort;
-
-/// Whether the kernel gives these results of the parts, in one run.
-fn gives<P, K: JoinedKernel<P>, R: Abort + Execution>(
-    rt: &R,
-    alloc: Global,
-    kernel: K,
-    parts: &[P],
-    wanted: &[&[K::Item]],
-) -> bool
-where
-    K::Item: PartialEq,
-    requires { All (K.Takes kernel) parts.now }
-{
-    let mut meter = Meter::new();
-    let made = run_joined(rt, alloc, &mut meter, kernel, parts).expect(rt, "memory");
-    are_parts(&made, wanted) && meter.runs() == 1
-}
-
-/// Whether the results of the parts are these.
-fn are_parts<T: PartialEq>(made: &[Vec<T>], wanted: &[&[T]]) -> bool {
-    made.len() == wanted.len() && made.iter().zip(wanted).all(|(v, w)| v.as_slice() == *w)
-}
 
 /// Asserts that the two vectors of each part have the same length.
 fn assert_paired<T>(rt: &impl Abort, parts: &[(&[T], &[T])])

@@ -4,6 +4,7 @@ ghost use Rattle.std.specs.Prelude.{◌≡◌, length, sum, All};
 ghost use Rattle.scan_kernels.specs.Indices.{HoldsEachPlaceOnce, IsPlaceOf, LieWithin, PermuteSegments};
 
 use crate::cut::cut;
+use crate::joined_parts::{gives_bools, gives_ints};
 use permute_kernels::{
     BackPermute, Gather, Pack, PackLengths, Permute, PermuteWhole, are_places, in_range,
     is_permutation, is_whole_permutation,
@@ -12,11 +13,6 @@ use scan_kernels::{Meter, run_joined};
 use segment_desc::Segd;
 use std::alloc::Global;
 use std::process::Abort;
-
-/// Whether the results of the parts are these.
-fn are_parts<T: PartialEq>(made: &[Vec<T>], wanted: &[&[T]]) -> bool {
-    made.len() == wanted.len() && made.iter().zip(wanted).all(|(v, w)| v.as_slice() == *w)
-}
 
 /// Asserts that the index of each part permutes each segment of its items.
 fn assert_permutes<T>(rt: &impl Abort, alloc: Global, parts: &[(&[T], &[i64], &Segd)])
@@ -84,7 +80,6 @@ fn assert_totals(rt: &impl Abort, parts: &[(&[bool], &Segd)])
 
 #[test]
 fn permutes_each_segment_of_each_part(rt: HostRuntime) {
-    let mut meter = Meter::new();
     let (first, none, last) = (
         cut(&rt, rt.alloc(), &[2, 1]),
         cut(&rt, rt.alloc(), &[]),
@@ -96,45 +91,35 @@ fn permutes_each_segment_of_each_part(rt: HostRuntime) {
         (&[1, 2, 3], &[2, 0, 1], &last),
     ];
     assert_permutes(&rt, rt.alloc(), &parts);
-    let made = run_joined(&rt, rt.alloc(), &mut meter, Permute, &parts).expect(&rt, "memory");
     let wanted: [&[i64]; 3] = [&[8, 7, 9], &[], &[2, 3, 1]];
-    assert!(rt; are_parts(&made, &wanted));
-    assert!(rt; meter.runs() == 1);
+    assert!(rt; gives_ints(&rt, rt.alloc(), Permute, &parts, &wanted));
     let parts: [(&[bool], &[i64], &Segd); 2] = [
         (&[], &[], &none),
         (&[false, true, true], &[1, 0, 0], &first),
     ];
     assert_permutes(&rt, rt.alloc(), &parts);
-    let made = run_joined(&rt, rt.alloc(), &mut meter, Permute, &parts).expect(&rt, "memory");
     let wanted: [&[bool]; 2] = [&[], &[true, false, true]];
-    assert!(rt; are_parts(&made, &wanted));
-    assert!(rt; meter.runs() == 2);
+    assert!(rt; gives_bools(&rt, rt.alloc(), Permute, &parts, &wanted));
 }
 
 #[test]
 fn permutes_each_part_whole(rt: HostRuntime) {
-    let mut meter = Meter::new();
     let parts: [(&[i64], &[i64]); 3] = [
         (&[10, 20, 30], &[2, 0, 1]),
         (&[], &[]),
         (&[5, 6], &[1, 0]),
     ];
     assert_permutes_whole(&rt, rt.alloc(), &parts);
-    let made = run_joined(&rt, rt.alloc(), &mut meter, PermuteWhole, &parts).expect(&rt, "memory");
     let wanted: [&[i64]; 3] = [&[20, 30, 10], &[], &[6, 5]];
-    assert!(rt; are_parts(&made, &wanted));
-    assert!(rt; meter.runs() == 1);
+    assert!(rt; gives_ints(&rt, rt.alloc(), PermuteWhole, &parts, &wanted));
     let parts: [(&[bool], &[i64]); 2] = [(&[true, false, false], &[2, 1, 0]), (&[true], &[0])];
     assert_permutes_whole(&rt, rt.alloc(), &parts);
-    let made = run_joined(&rt, rt.alloc(), &mut meter, PermuteWhole, &parts).expect(&rt, "memory");
     let wanted: [&[bool]; 2] = [&[false, false, true], &[true]];
-    assert!(rt; are_parts(&made, &wanted));
-    assert!(rt; meter.runs() == 2);
+    assert!(rt; gives_bools(&rt, rt.alloc(), PermuteWhole, &parts, &wanted));
 }
 
 #[test]
 fn reads_the_segments_of_each_part(rt: HostRuntime) {
-    let mut meter = Meter::new();
     let (two_one, three_one) = (cut(&rt, rt.alloc(), &[2, 1]), cut(&rt, rt.alloc(), &[3, 1]));
     let (none_two, none) = (cut(&rt, rt.alloc(), &[0, 2]), cut(&rt, rt.alloc(), &[]));
     let (one, empty) = (cut(&rt, rt.alloc(), &[1]), cut(&rt, rt.alloc(), &[0]));
@@ -145,24 +130,19 @@ fn reads_the_segments_of_each_part(rt: HostRuntime) {
         (&[6], &one, &[], &empty),
     ];
     assert_in_range(&rt, &parts);
-    let made = run_joined(&rt, rt.alloc(), &mut meter, BackPermute, &parts).expect(&rt, "memory");
     let wanted: [&[i64]; 4] = [&[2, 1, 1, 3], &[], &[5, 5], &[]];
-    assert!(rt; are_parts(&made, &wanted));
-    assert!(rt; meter.runs() == 1);
+    assert!(rt; gives_ints(&rt, rt.alloc(), BackPermute, &parts, &wanted));
     let parts: [(&[bool], &Segd, &[i64], &Segd); 2] = [
         (&[true, false, true], &two_one, &[1, 1, 0, 0], &three_one),
         (&[false], &one, &[], &empty),
     ];
     assert_in_range(&rt, &parts);
-    let made = run_joined(&rt, rt.alloc(), &mut meter, BackPermute, &parts).expect(&rt, "memory");
     let wanted: [&[bool]; 2] = [&[false, false, true, true], &[]];
-    assert!(rt; are_parts(&made, &wanted));
-    assert!(rt; meter.runs() == 2);
+    assert!(rt; gives_bools(&rt, rt.alloc(), BackPermute, &parts, &wanted));
 }
 
 #[test]
 fn gathers_from_the_items_of_each_part(rt: HostRuntime) {
-    let mut meter = Meter::new();
     let parts: [(&[i64], &[i64]); 4] = [
         (&[10, 20, 30], &[2, 2, 0, 1]),
         (&[1], &[]),
@@ -170,21 +150,16 @@ fn gathers_from_the_items_of_each_part(rt: HostRuntime) {
         (&[5, 6], &[1]),
     ];
     assert_places(&rt, &parts);
-    let made = run_joined(&rt, rt.alloc(), &mut meter, Gather, &parts).expect(&rt, "memory");
     let wanted: [&[i64]; 4] = [&[30, 30, 10, 20], &[], &[], &[6]];
-    assert!(rt; are_parts(&made, &wanted));
-    assert!(rt; meter.runs() == 1);
+    assert!(rt; gives_ints(&rt, rt.alloc(), Gather, &parts, &wanted));
     let parts: [(&[bool], &[i64]); 2] = [(&[true, false], &[1, 0, 1]), (&[true, true], &[1])];
     assert_places(&rt, &parts);
-    let made = run_joined(&rt, rt.alloc(), &mut meter, Gather, &parts).expect(&rt, "memory");
     let wanted: [&[bool]; 2] = [&[false, true, false], &[true]];
-    assert!(rt; are_parts(&made, &wanted));
-    assert!(rt; meter.runs() == 2);
+    assert!(rt; gives_bools(&rt, rt.alloc(), Gather, &parts, &wanted));
 }
 
 #[test]
 fn packs_each_part(rt: HostRuntime) {
-    let mut meter = Meter::new();
     let parts: [(&[i64], &[bool]); 4] = [
         (&[5, 6, 7, 8], &[true, false, false, true]),
         (&[], &[]),
@@ -192,24 +167,19 @@ fn packs_each_part(rt: HostRuntime) {
         (&[3], &[true]),
     ];
     assert_flags(&rt, &parts);
-    let made = run_joined(&rt, rt.alloc(), &mut meter, Pack, &parts).expect(&rt, "memory");
     let wanted: [&[i64]; 4] = [&[5, 8], &[], &[], &[3]];
-    assert!(rt; are_parts(&made, &wanted));
-    assert!(rt; meter.runs() == 1);
+    assert!(rt; gives_ints(&rt, rt.alloc(), Pack, &parts, &wanted));
     let parts: [(&[bool], &[bool]); 2] = [
         (&[true, false], &[false, true]),
         (&[true, true], &[true, true]),
     ];
     assert_flags(&rt, &parts);
-    let made = run_joined(&rt, rt.alloc(), &mut meter, Pack, &parts).expect(&rt, "memory");
     let wanted: [&[bool]; 2] = [&[false], &[true, true]];
-    assert!(rt; are_parts(&made, &wanted));
-    assert!(rt; meter.runs() == 2);
+    assert!(rt; gives_bools(&rt, rt.alloc(), Pack, &parts, &wanted));
 }
 
 #[test]
 fn counts_what_each_segment_of_each_part_keeps(rt: HostRuntime) {
-    let mut meter = Meter::new();
     let (first, empty) = (cut(&rt, rt.alloc(), &[3, 1]), cut(&rt, rt.alloc(), &[0, 0]));
     let (none, last) = (cut(&rt, rt.alloc(), &[]), cut(&rt, rt.alloc(), &[0, 2, 0]));
     let parts: [(&[bool], &Segd); 4] = [
@@ -219,10 +189,8 @@ fn counts_what_each_segment_of_each_part_keeps(rt: HostRuntime) {
         (&[true, true], &last),
     ];
     assert_totals(&rt, &parts);
-    let made = run_joined(&rt, rt.alloc(), &mut meter, PackLengths, &parts).expect(&rt, "memory");
     let wanted: [&[i64]; 4] = [&[1, 1], &[0, 0], &[], &[0, 2, 0]];
-    assert!(rt; are_parts(&made, &wanted));
-    assert!(rt; meter.runs() == 1);
+    assert!(rt; gives_ints(&rt, rt.alloc(), PackLengths, &parts, &wanted));
 }
 
 #[test]

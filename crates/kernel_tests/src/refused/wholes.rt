@@ -1,10 +1,11 @@
 //! Kernels over whole vectors, while memory is refused.
 
 use super::{begin, end};
+use scan_kernels::joined::{reduce_whole_b_joined, reduce_whole_z_joined};
 use scan_kernels::{
     B1, B2, Cmp, Meter, ScanB, ScanZ, Sequential, Z1, Z2, compare2, index_whole, map1_b, map1_z,
-    map2_b, map2_z, number, reduce_whole_b_joined, reduce_whole_z_joined, repeat_b, repeat_z,
-    scan_whole_b, scan_whole_z, select_b, select_z, truth,
+    map2_b, map2_z, number, repeat_b, repeat_z, scan_whole_b, scan_whole_z, select_b, select_z,
+    truth,
 };
 use std::alloc::{Alloc, Global};
 use std::process::Abort;

@@ -5,9 +5,12 @@ ghost use Rattle.scan_kernels.specs.Indices.{LieWithin};
 ghost use Rattle.scan_kernels.specs.Gathered.{segmented_gather};
 
 use crate::back_permute::gather_each;
-use scan_kernels::{JoinedKernel, Kernel, run_parts};
+use scan_kernels::{
+    BoolKernel, BoolRow, GatheredSegments, IntKernel, IntRow, JoinedKernel, Kernel, Shelf,
+    run_parts,
+};
 use segment_desc::Segd;
-use std::alloc::{AllocError, Global};
+use std::alloc::AllocError;
 
 /// Items read by an index, segment by segment.
 #[derive(Clone, Copy)]
@@ -23,20 +26,32 @@ impl<'a> Kernel<(&'a [i64], &'a Segd, &'a [i64], &'a Segd)> for BackPermute {
     #[inline(always)]
     fn run(
         self,
-        alloc: Global,
+        shelf: &mut Shelf<i64>,
         part: &(&'a [i64], &'a Segd, &'a [i64], &'a Segd),
     ) -> Result<Vec<i64>, AllocError> {
-        gather_each(alloc, part.0, part.1.lengths(), part.2, part.3.lengths())
+        gather_each(shelf, part.0, part.1.lengths(), part.2, part.3.lengths())
     }
 }
 
 impl<'a> JoinedKernel<(&'a [i64], &'a Segd, &'a [i64], &'a Segd)> for BackPermute {
     fn run_each(
         self,
-        alloc: Global,
+        shelf: &mut Shelf<i64>,
         parts: &[(&'a [i64], &'a Segd, &'a [i64], &'a Segd)],
     ) -> Result<Vec<Vec<i64>>, AllocError> {
-        run_parts(alloc, self, parts)
+        run_parts(shelf, self, parts)
+    }
+}
+
+impl<'a> IntKernel<'a, (&'a [i64], &'a Segd, &'a [i64], &'a Segd)> for BackPermute {
+    fn row(self, part: &(&'a [i64], &'a Segd, &'a [i64], &'a Segd)) -> Option<IntRow<'a>> {
+        let (items, source, index, by) = *part;
+        Some(IntRow::GatheredSegments(GatheredSegments {
+            items,
+            source: source.lengths(),
+            index,
+            by: by.lengths(),
+        }))
     }
 }
 
@@ -50,19 +65,31 @@ impl<'a> Kernel<(&'a [bool], &'a Segd, &'a [i64], &'a Segd)> for BackPermute {
     #[inline(always)]
     fn run(
         self,
-        alloc: Global,
+        shelf: &mut Shelf<bool>,
         part: &(&'a [bool], &'a Segd, &'a [i64], &'a Segd),
     ) -> Result<Vec<bool>, AllocError> {
-        gather_each(alloc, part.0, part.1.lengths(), part.2, part.3.lengths())
+        gather_each(shelf, part.0, part.1.lengths(), part.2, part.3.lengths())
     }
 }
 
 impl<'a> JoinedKernel<(&'a [bool], &'a Segd, &'a [i64], &'a Segd)> for BackPermute {
     fn run_each(
         self,
-        alloc: Global,
+        shelf: &mut Shelf<bool>,
         parts: &[(&'a [bool], &'a Segd, &'a [i64], &'a Segd)],
     ) -> Result<Vec<Vec<bool>>, AllocError> {
-        run_parts(alloc, self, parts)
+        run_parts(shelf, self, parts)
+    }
+}
+
+impl<'a> BoolKernel<'a, (&'a [bool], &'a Segd, &'a [i64], &'a Segd)> for BackPermute {
+    fn row(self, part: &(&'a [bool], &'a Segd, &'a [i64], &'a Segd)) -> Option<BoolRow<'a>> {
+        let (items, source, index, by) = *part;
+        Some(BoolRow::GatheredSegments(GatheredSegments {
+            items,
+            source: source.lengths(),
+            index,
+            by: by.lengths(),
+        }))
     }
 }

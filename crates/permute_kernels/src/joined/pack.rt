@@ -4,9 +4,12 @@ ghost use Rattle.std.specs.Prelude.{◌≡◌, length};
 ghost use Rattle.segment_desc.specs.Cut.{joined};
 ghost use Rattle.scan_kernels.specs.Packed.{packed};
 
-use scan_kernels::{JoinedKernel, Kernel, PACK_BLOCK, packed, run_parts};
+use scan_kernels::{
+    BoolKernel, BoolRow, IntKernel, IntRow, JoinedKernel, Kernel, PACK_BLOCK, Shelf, packed,
+    run_parts,
+};
 use segment_desc::Segd;
-use std::alloc::{AllocError, Global};
+use std::alloc::AllocError;
 
 /// Items kept by a flag.
 #[derive(Clone, Copy)]
@@ -20,18 +23,28 @@ impl<'a> Kernel<(&'a [i64], &'a [bool])> for Pack {
     ghost makes = { λ kernel p. packed p.1.now p.0.now };
 
     #[inline(always)]
-    fn run(self, alloc: Global, part: &(&'a [i64], &'a [bool])) -> Result<Vec<i64>, AllocError> {
-        packed(alloc, part.0, part.1, &mut [0; PACK_BLOCK])
+    fn run(
+        self,
+        shelf: &mut Shelf<i64>,
+        part: &(&'a [i64], &'a [bool]),
+    ) -> Result<Vec<i64>, AllocError> {
+        packed(shelf, part.0, part.1, &mut [0; PACK_BLOCK])
     }
 }
 
 impl<'a> JoinedKernel<(&'a [i64], &'a [bool])> for Pack {
     fn run_each(
         self,
-        alloc: Global,
+        shelf: &mut Shelf<i64>,
         parts: &[(&'a [i64], &'a [bool])],
     ) -> Result<Vec<Vec<i64>>, AllocError> {
-        run_parts(alloc, self, parts)
+        run_parts(shelf, self, parts)
+    }
+}
+
+impl<'a> IntKernel<'a, (&'a [i64], &'a [bool])> for Pack {
+    fn row(self, part: &(&'a [i64], &'a [bool])) -> Option<IntRow<'a>> {
+        None
     }
 }
 
@@ -43,18 +56,28 @@ impl<'a> Kernel<(&'a [bool], &'a [bool])> for Pack {
     ghost makes = { λ kernel p. packed p.1.now p.0.now };
 
     #[inline(always)]
-    fn run(self, alloc: Global, part: &(&'a [bool], &'a [bool])) -> Result<Vec<bool>, AllocError> {
-        packed(alloc, part.0, part.1, &mut [false; PACK_BLOCK])
+    fn run(
+        self,
+        shelf: &mut Shelf<bool>,
+        part: &(&'a [bool], &'a [bool]),
+    ) -> Result<Vec<bool>, AllocError> {
+        packed(shelf, part.0, part.1, &mut [false; PACK_BLOCK])
     }
 }
 
 impl<'a> JoinedKernel<(&'a [bool], &'a [bool])> for Pack {
     fn run_each(
         self,
-        alloc: Global,
+        shelf: &mut Shelf<bool>,
         parts: &[(&'a [bool], &'a [bool])],
     ) -> Result<Vec<Vec<bool>>, AllocError> {
-        run_parts(alloc, self, parts)
+        run_parts(shelf, self, parts)
+    }
+}
+
+impl<'a> BoolKernel<'a, (&'a [bool], &'a [bool])> for Pack {
+    fn row(self, part: &(&'a [bool], &'a [bool])) -> Option<BoolRow<'a>> {
+        None
     }
 }
 
@@ -72,20 +95,26 @@ impl<'a> Kernel<(&'a [i64], &'a [bool], &'a Segd)> for PackSegments {
     #[inline(always)]
     fn run(
         self,
-        alloc: Global,
+        shelf: &mut Shelf<i64>,
         part: &(&'a [i64], &'a [bool], &'a Segd),
     ) -> Result<Vec<i64>, AllocError> {
-        packed(alloc, part.0, part.1, &mut [0; PACK_BLOCK])
+        Pack.run(shelf, &(part.0, part.1))
     }
 }
 
 impl<'a> JoinedKernel<(&'a [i64], &'a [bool], &'a Segd)> for PackSegments {
     fn run_each(
         self,
-        alloc: Global,
+        shelf: &mut Shelf<i64>,
         parts: &[(&'a [i64], &'a [bool], &'a Segd)],
     ) -> Result<Vec<Vec<i64>>, AllocError> {
-        run_parts(alloc, self, parts)
+        run_parts(shelf, self, parts)
+    }
+}
+
+impl<'a> IntKernel<'a, (&'a [i64], &'a [bool], &'a Segd)> for PackSegments {
+    fn row(self, part: &(&'a [i64], &'a [bool], &'a Segd)) -> Option<IntRow<'a>> {
+        None
     }
 }
 
@@ -99,19 +128,25 @@ impl<'a> Kernel<(&'a [bool], &'a [bool], &'a Segd)> for PackSegments {
     #[inline(always)]
     fn run(
         self,
-        alloc: Global,
+        shelf: &mut Shelf<bool>,
         part: &(&'a [bool], &'a [bool], &'a Segd),
     ) -> Result<Vec<bool>, AllocError> {
-        packed(alloc, part.0, part.1, &mut [false; PACK_BLOCK])
+        Pack.run(shelf, &(part.0, part.1))
     }
 }
 
 impl<'a> JoinedKernel<(&'a [bool], &'a [bool], &'a Segd)> for PackSegments {
     fn run_each(
         self,
-        alloc: Global,
+        shelf: &mut Shelf<bool>,
         parts: &[(&'a [bool], &'a [bool], &'a Segd)],
     ) -> Result<Vec<Vec<bool>>, AllocError> {
-        run_parts(alloc, self, parts)
+        run_parts(shelf, self, parts)
+    }
+}
+
+impl<'a> BoolKernel<'a, (&'a [bool], &'a [bool], &'a Segd)> for PackSegments {
+    fn row(self, part: &(&'a [bool], &'a [bool], &'a Segd)) -> Option<BoolRow<'a>> {
+        None
     }
 }

@@ -5,9 +5,12 @@ ghost use Rattle.scan_kernels.specs.Indices.{PermuteSegments};
 ghost use Rattle.scan_kernels.specs.Permuted.{segmented_permute};
 
 use crate::permute::permuted;
-use scan_kernels::{JoinedKernel, Kernel, run_parts};
+use scan_kernels::{
+    BoolKernel, BoolRow, IntKernel, IntRow, JoinedKernel, Kernel, PermutedSegments, Shelf,
+    run_parts,
+};
 use segment_desc::Segd;
-use std::alloc::{AllocError, Global};
+use std::alloc::AllocError;
 
 /// Items moved by an index, segment by segment.
 #[derive(Clone, Copy)]
@@ -23,20 +26,31 @@ impl<'a> Kernel<(&'a [i64], &'a [i64], &'a Segd)> for Permute {
     #[inline(always)]
     fn run(
         self,
-        alloc: Global,
+        shelf: &mut Shelf<i64>,
         part: &(&'a [i64], &'a [i64], &'a Segd),
     ) -> Result<Vec<i64>, AllocError> {
-        permuted(alloc, part.0, part.1, part.2.lengths())
+        permuted(shelf, part.0, part.1, part.2.lengths())
     }
 }
 
 impl<'a> JoinedKernel<(&'a [i64], &'a [i64], &'a Segd)> for Permute {
     fn run_each(
         self,
-        alloc: Global,
+        shelf: &mut Shelf<i64>,
         parts: &[(&'a [i64], &'a [i64], &'a Segd)],
     ) -> Result<Vec<Vec<i64>>, AllocError> {
-        run_parts(alloc, self, parts)
+        run_parts(shelf, self, parts)
+    }
+}
+
+impl<'a> IntKernel<'a, (&'a [i64], &'a [i64], &'a Segd)> for Permute {
+    fn row(self, part: &(&'a [i64], &'a [i64], &'a Segd)) -> Option<IntRow<'a>> {
+        let (items, index, segments) = *part;
+        Some(IntRow::PermutedSegments(PermutedSegments {
+            items,
+            index,
+            lengths: segments.lengths(),
+        }))
     }
 }
 
@@ -50,19 +64,30 @@ impl<'a> Kernel<(&'a [bool], &'a [i64], &'a Segd)> for Permute {
     #[inline(always)]
     fn run(
         self,
-        alloc: Global,
+        shelf: &mut Shelf<bool>,
         part: &(&'a [bool], &'a [i64], &'a Segd),
     ) -> Result<Vec<bool>, AllocError> {
-        permuted(alloc, part.0, part.1, part.2.lengths())
+        permuted(shelf, part.0, part.1, part.2.lengths())
     }
 }
 
 impl<'a> JoinedKernel<(&'a [bool], &'a [i64], &'a Segd)> for Permute {
     fn run_each(
         self,
-        alloc: Global,
+        shelf: &mut Shelf<bool>,
         parts: &[(&'a [bool], &'a [i64], &'a Segd)],
     ) -> Result<Vec<Vec<bool>>, AllocError> {
-        run_parts(alloc, self, parts)
+        run_parts(shelf, self, parts)
+    }
+}
+
+impl<'a> BoolKernel<'a, (&'a [bool], &'a [i64], &'a Segd)> for Permute {
+    fn row(self, part: &(&'a [bool], &'a [i64], &'a Segd)) -> Option<BoolRow<'a>> {
+        let (items, index, segments) = *part;
+        Some(BoolRow::PermutedSegments(PermutedSegments {
+            items,
+            index,
+            lengths: segments.lengths(),
+        }))
     }
 }

@@ -5,8 +5,10 @@ ghost use Rattle.scan_kernels.specs.Indices.{HoldsEachPlaceOnce};
 ghost use Rattle.scan_kernels.specs.Permuted.{permuted};
 
 use crate::permute_whole::permuted_whole;
-use scan_kernels::{JoinedKernel, Kernel, run_parts};
-use std::alloc::{AllocError, Global};
+use scan_kernels::{
+    BoolKernel, BoolRow, IntKernel, IntRow, JoinedKernel, Kernel, Permuted, Shelf, run_parts,
+};
+use std::alloc::AllocError;
 
 /// Items moved by an index.
 #[derive(Clone, Copy)]
@@ -20,18 +22,29 @@ impl<'a> Kernel<(&'a [i64], &'a [i64])> for PermuteWhole {
     ghost makes = { λ kernel p. permuted p.1.now p.0.now };
 
     #[inline(always)]
-    fn run(self, alloc: Global, part: &(&'a [i64], &'a [i64])) -> Result<Vec<i64>, AllocError> {
-        permuted_whole(alloc, part.0, part.1)
+    fn run(
+        self,
+        shelf: &mut Shelf<i64>,
+        part: &(&'a [i64], &'a [i64]),
+    ) -> Result<Vec<i64>, AllocError> {
+        permuted_whole(shelf, part.0, part.1)
     }
 }
 
 impl<'a> JoinedKernel<(&'a [i64], &'a [i64])> for PermuteWhole {
     fn run_each(
         self,
-        alloc: Global,
+        shelf: &mut Shelf<i64>,
         parts: &[(&'a [i64], &'a [i64])],
     ) -> Result<Vec<Vec<i64>>, AllocError> {
-        run_parts(alloc, self, parts)
+        run_parts(shelf, self, parts)
+    }
+}
+
+impl<'a> IntKernel<'a, (&'a [i64], &'a [i64])> for PermuteWhole {
+    fn row(self, part: &(&'a [i64], &'a [i64])) -> Option<IntRow<'a>> {
+        let (items, index) = *part;
+        Some(IntRow::Permuted(Permuted { items, index }))
     }
 }
 
@@ -43,17 +56,28 @@ impl<'a> Kernel<(&'a [bool], &'a [i64])> for PermuteWhole {
     ghost makes = { λ kernel p. permuted p.1.now p.0.now };
 
     #[inline(always)]
-    fn run(self, alloc: Global, part: &(&'a [bool], &'a [i64])) -> Result<Vec<bool>, AllocError> {
-        permuted_whole(alloc, part.0, part.1)
+    fn run(
+        self,
+        shelf: &mut Shelf<bool>,
+        part: &(&'a [bool], &'a [i64]),
+    ) -> Result<Vec<bool>, AllocError> {
+        permuted_whole(shelf, part.0, part.1)
     }
 }
 
 impl<'a> JoinedKernel<(&'a [bool], &'a [i64])> for PermuteWhole {
     fn run_each(
         self,
-        alloc: Global,
+        shelf: &mut Shelf<bool>,
         parts: &[(&'a [bool], &'a [i64])],
     ) -> Result<Vec<Vec<bool>>, AllocError> {
-        run_parts(alloc, self, parts)
+        run_parts(shelf, self, parts)
+    }
+}
+
+impl<'a> BoolKernel<'a, (&'a [bool], &'a [i64])> for PermuteWhole {
+    fn row(self, part: &(&'a [bool], &'a [i64])) -> Option<BoolRow<'a>> {
+        let (items, index) = *part;
+        Some(BoolRow::Permuted(Permuted { items, index }))
     }
 }

@@ -6,9 +6,13 @@ ghost use Rattle.scan_kernels.specs.Elementwise.{item_by_item};
 
 use crate::choices::{by_comparison, by_name};
 use crate::compare::compared;
+use crate::joined_rows::BoolKernel;
 use crate::kernel::{JoinedKernel, Kernel, run_parts};
+use crate::lists::Compared;
+use crate::rows::BoolRow;
+use crate::shelf::Shelf;
 use item_operations::Cmp;
-use std::alloc::{AllocError, Global};
+use std::alloc::AllocError;
 
 impl<'a> Kernel<(&'a [i64], &'a [i64])> for Cmp {
     type Item = bool;
@@ -18,18 +22,29 @@ impl<'a> Kernel<(&'a [i64], &'a [i64])> for Cmp {
     ghost makes = { λ op p. item_by_item (compares op) p.0.now p.1.now };
 
     #[inline(always)]
-    fn run(self, alloc: Global, part: &(&'a [i64], &'a [i64])) -> Result<Vec<bool>, AllocError> {
-        compared(alloc, self, part.0, part.1)
+    fn run(
+        self,
+        shelf: &mut Shelf<bool>,
+        part: &(&'a [i64], &'a [i64]),
+    ) -> Result<Vec<bool>, AllocError> {
+        compared(shelf, self, part.0, part.1)
     }
 }
 
 impl<'a> JoinedKernel<(&'a [i64], &'a [i64])> for Cmp {
     fn run_each(
         self,
-        alloc: Global,
+        shelf: &mut Shelf<bool>,
         parts: &[(&'a [i64], &'a [i64])],
     ) -> Result<Vec<Vec<bool>>, AllocError> {
         let op = self;
-        by_comparison!(op, run_parts(alloc, op, parts))
+        by_comparison!(op, run_parts(shelf, op, parts))
+    }
+}
+
+impl<'a> BoolKernel<'a, (&'a [i64], &'a [i64])> for Cmp {
+    fn row(self, part: &(&'a [i64], &'a [i64])) -> Option<BoolRow<'a>> {
+        let (op, (left, right)) = (self, *part);
+        Some(BoolRow::Compared(Compared { op, left, right }))
     }
 }

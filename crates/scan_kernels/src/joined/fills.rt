@@ -4,9 +4,13 @@ ghost use Rattle.std.specs.Prelude.{◌≤◌, replicate};
 ghost use Rattle.segment_desc.specs.Lengths.{most};
 ghost use Rattle.scan_kernels.specs.Indexed.{indexed};
 
+use crate::fills::{Repeated, Rising};
+use crate::joined_rows::{BoolKernel, IntKernel};
 use crate::kernel::{JoinedKernel, Kernel, run_parts};
+use crate::rows::{BoolRow, IntRow};
+use crate::shelf::Shelf;
 use crate::whole::{repeated, rising};
-use std::alloc::{AllocError, Global};
+use std::alloc::AllocError;
 
 /// An item so many times.
 #[derive(Clone, Copy)]
@@ -20,14 +24,25 @@ impl Kernel<(i64, usize)> for Repeat {
     ghost makes = { λ kernel p. replicate p.1 p.0 };
 
     #[inline(always)]
-    fn run(self, alloc: Global, part: &(i64, usize)) -> Result<Vec<i64>, AllocError> {
-        repeated(alloc, part.0, part.1)
+    fn run(self, shelf: &mut Shelf<i64>, part: &(i64, usize)) -> Result<Vec<i64>, AllocError> {
+        repeated(shelf, part.0, part.1)
     }
 }
 
 impl JoinedKernel<(i64, usize)> for Repeat {
-    fn run_each(self, alloc: Global, parts: &[(i64, usize)]) -> Result<Vec<Vec<i64>>, AllocError> {
-        run_parts(alloc, self, parts)
+    fn run_each(
+        self,
+        shelf: &mut Shelf<i64>,
+        parts: &[(i64, usize)],
+    ) -> Result<Vec<Vec<i64>>, AllocError> {
+        run_parts(shelf, self, parts)
+    }
+}
+
+impl<'a> IntKernel<'a, (i64, usize)> for Repeat {
+    fn row(self, part: &(i64, usize)) -> Option<IntRow<'a>> {
+        let (item, count) = *part;
+        Some(IntRow::Repeated(Repeated { item, count }))
     }
 }
 
@@ -39,18 +54,25 @@ impl Kernel<(bool, usize)> for Repeat {
     ghost makes = { λ kernel p. replicate p.1 p.0 };
 
     #[inline(always)]
-    fn run(self, alloc: Global, part: &(bool, usize)) -> Result<Vec<bool>, AllocError> {
-        repeated(alloc, part.0, part.1)
+    fn run(self, shelf: &mut Shelf<bool>, part: &(bool, usize)) -> Result<Vec<bool>, AllocError> {
+        repeated(shelf, part.0, part.1)
     }
 }
 
 impl JoinedKernel<(bool, usize)> for Repeat {
     fn run_each(
         self,
-        alloc: Global,
+        shelf: &mut Shelf<bool>,
         parts: &[(bool, usize)],
     ) -> Result<Vec<Vec<bool>>, AllocError> {
-        run_parts(alloc, self, parts)
+        run_parts(shelf, self, parts)
+    }
+}
+
+impl<'a> BoolKernel<'a, (bool, usize)> for Repeat {
+    fn row(self, part: &(bool, usize)) -> Option<BoolRow<'a>> {
+        let (item, count) = *part;
+        Some(BoolRow::Repeated(Repeated { item, count }))
     }
 }
 
@@ -66,17 +88,28 @@ impl Kernel<(i64, i64, usize)> for Index {
     ghost makes = { λ kernel p. indexed p.0 p.1 p.2 };
 
     #[inline(always)]
-    fn run(self, alloc: Global, part: &(i64, i64, usize)) -> Result<Vec<i64>, AllocError> {
-        rising(alloc, part.0, part.1, part.2)
+    fn run(self, shelf: &mut Shelf<i64>, part: &(i64, i64, usize)) -> Result<Vec<i64>, AllocError> {
+        rising(shelf, part.0, part.1, part.2)
     }
 }
 
 impl JoinedKernel<(i64, i64, usize)> for Index {
     fn run_each(
         self,
-        alloc: Global,
+        shelf: &mut Shelf<i64>,
         parts: &[(i64, i64, usize)],
     ) -> Result<Vec<Vec<i64>>, AllocError> {
-        run_parts(alloc, self, parts)
+        run_parts(shelf, self, parts)
+    }
+}
+
+impl<'a> IntKernel<'a, (i64, i64, usize)> for Index {
+    fn row(self, part: &(i64, i64, usize)) -> Option<IntRow<'a>> {
+        let (start, stride, count) = *part;
+        Some(IntRow::Rising(Rising {
+            start,
+            stride,
+            count,
+        }))
     }
 }

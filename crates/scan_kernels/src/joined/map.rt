@@ -6,10 +6,14 @@ ghost use Rattle.item_operations.specs.BooleanOps.{alter_b, apply_b};
 ghost use Rattle.scan_kernels.specs.Elementwise.{item_by_item};
 
 use crate::choices::{by_b1, by_b2, by_name, by_z1, by_z2};
+use crate::joined_rows::{BoolKernel, IntKernel};
 use crate::kernel::{JoinedKernel, Kernel, run_parts};
+use crate::lists::{AlteredBools, AlteredInts, AppliedBools, AppliedInts};
 use crate::map::{altered_b, altered_z, applied_b, applied_z};
+use crate::rows::{BoolRow, IntRow};
+use crate::shelf::Shelf;
 use item_operations::{B1, B2, Z1, Z2};
-use std::alloc::{AllocError, Global};
+use std::alloc::AllocError;
 
 impl<'a> Kernel<&'a [i64]> for Z1 {
     type Item = i64;
@@ -19,15 +23,26 @@ impl<'a> Kernel<&'a [i64]> for Z1 {
     ghost makes = { λ op p. map (alter_z op) p.now };
 
     #[inline(always)]
-    fn run(self, alloc: Global, part: &&'a [i64]) -> Result<Vec<i64>, AllocError> {
-        altered_z(alloc, self, part)
+    fn run(self, shelf: &mut Shelf<i64>, part: &&'a [i64]) -> Result<Vec<i64>, AllocError> {
+        altered_z(shelf, self, part)
     }
 }
 
 impl<'a> JoinedKernel<&'a [i64]> for Z1 {
-    fn run_each(self, alloc: Global, parts: &[&'a [i64]]) -> Result<Vec<Vec<i64>>, AllocError> {
+    fn run_each(
+        self,
+        shelf: &mut Shelf<i64>,
+        parts: &[&'a [i64]],
+    ) -> Result<Vec<Vec<i64>>, AllocError> {
         let op = self;
-        by_z1!(op, run_parts(alloc, op, parts))
+        by_z1!(op, run_parts(shelf, op, parts))
+    }
+}
+
+impl<'a> IntKernel<'a, &'a [i64]> for Z1 {
+    fn row(self, part: &&'a [i64]) -> Option<IntRow<'a>> {
+        let op = self;
+        Some(IntRow::Altered(AlteredInts { op, items: part }))
     }
 }
 
@@ -39,15 +54,26 @@ impl<'a> Kernel<&'a [bool]> for B1 {
     ghost makes = { λ op p. map (alter_b op) p.now };
 
     #[inline(always)]
-    fn run(self, alloc: Global, part: &&'a [bool]) -> Result<Vec<bool>, AllocError> {
-        altered_b(alloc, self, part)
+    fn run(self, shelf: &mut Shelf<bool>, part: &&'a [bool]) -> Result<Vec<bool>, AllocError> {
+        altered_b(shelf, self, part)
     }
 }
 
 impl<'a> JoinedKernel<&'a [bool]> for B1 {
-    fn run_each(self, alloc: Global, parts: &[&'a [bool]]) -> Result<Vec<Vec<bool>>, AllocError> {
+    fn run_each(
+        self,
+        shelf: &mut Shelf<bool>,
+        parts: &[&'a [bool]],
+    ) -> Result<Vec<Vec<bool>>, AllocError> {
         let op = self;
-        by_b1!(op, run_parts(alloc, op, parts))
+        by_b1!(op, run_parts(shelf, op, parts))
+    }
+}
+
+impl<'a> BoolKernel<'a, &'a [bool]> for B1 {
+    fn row(self, part: &&'a [bool]) -> Option<BoolRow<'a>> {
+        let op = self;
+        Some(BoolRow::Altered(AlteredBools { op, items: part }))
     }
 }
 
@@ -59,19 +85,30 @@ impl<'a> Kernel<(&'a [i64], &'a [i64])> for Z2 {
     ghost makes = { λ op p. item_by_item (apply_z op) p.0.now p.1.now };
 
     #[inline(always)]
-    fn run(self, alloc: Global, part: &(&'a [i64], &'a [i64])) -> Result<Vec<i64>, AllocError> {
-        applied_z(alloc, self, part.0, part.1)
+    fn run(
+        self,
+        shelf: &mut Shelf<i64>,
+        part: &(&'a [i64], &'a [i64]),
+    ) -> Result<Vec<i64>, AllocError> {
+        applied_z(shelf, self, part.0, part.1)
     }
 }
 
 impl<'a> JoinedKernel<(&'a [i64], &'a [i64])> for Z2 {
     fn run_each(
         self,
-        alloc: Global,
+        shelf: &mut Shelf<i64>,
         parts: &[(&'a [i64], &'a [i64])],
     ) -> Result<Vec<Vec<i64>>, AllocError> {
         let op = self;
-        by_z2!(op, run_parts(alloc, op, parts))
+        by_z2!(op, run_parts(shelf, op, parts))
+    }
+}
+
+impl<'a> IntKernel<'a, (&'a [i64], &'a [i64])> for Z2 {
+    fn row(self, part: &(&'a [i64], &'a [i64])) -> Option<IntRow<'a>> {
+        let (op, (left, right)) = (self, *part);
+        Some(IntRow::Applied(AppliedInts { op, left, right }))
     }
 }
 
@@ -83,18 +120,29 @@ impl<'a> Kernel<(&'a [bool], &'a [bool])> for B2 {
     ghost makes = { λ op p. item_by_item (apply_b op) p.0.now p.1.now };
 
     #[inline(always)]
-    fn run(self, alloc: Global, part: &(&'a [bool], &'a [bool])) -> Result<Vec<bool>, AllocError> {
-        applied_b(alloc, self, part.0, part.1)
+    fn run(
+        self,
+        shelf: &mut Shelf<bool>,
+        part: &(&'a [bool], &'a [bool]),
+    ) -> Result<Vec<bool>, AllocError> {
+        applied_b(shelf, self, part.0, part.1)
     }
 }
 
 impl<'a> JoinedKernel<(&'a [bool], &'a [bool])> for B2 {
     fn run_each(
         self,
-        alloc: Global,
+        shelf: &mut Shelf<bool>,
         parts: &[(&'a [bool], &'a [bool])],
     ) -> Result<Vec<Vec<bool>>, AllocError> {
         let op = self;
-        by_b2!(op, run_parts(alloc, op, parts))
+        by_b2!(op, run_parts(shelf, op, parts))
+    }
+}
+
+impl<'a> BoolKernel<'a, (&'a [bool], &'a [bool])> for B2 {
+    fn row(self, part: &(&'a [bool], &'a [bool])) -> Option<BoolRow<'a>> {
+        let (op, (left, right)) = (self, *part);
+        Some(BoolRow::Applied(AppliedBools { op, left, right }))
     }
 }

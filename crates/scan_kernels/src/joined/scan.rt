@@ -6,11 +6,14 @@ ghost use Rattle.item_operations.specs.IntegerScans.{combine_z, unit_z};
 ghost use Rattle.scan_kernels.specs.Segmented.{segmented_scan};
 
 use crate::choices::{by_name, by_scan_b, by_scan_z};
+use crate::joined_rows::{BoolKernel, IntKernel};
 use crate::kernel::{JoinedKernel, Kernel, run_parts};
+use crate::rows::{BoolRow, IntRow};
 use crate::scan::scan;
+use crate::shelf::Shelf;
 use item_operations::{ScanB, ScanZ};
 use segment_desc::Segd;
-use std::alloc::{AllocError, Global};
+use std::alloc::AllocError;
 
 /// The scan of each segment of integers.
 #[derive(Clone, Copy)]
@@ -24,19 +27,29 @@ impl<'a> Kernel<(&'a [i64], &'a Segd)> for ScanIntSegments {
     ghost makes = { λ kernel p. segmented_scan (combine_z kernel.0) (unit_z kernel.0) p.1.now p.0.now };
 
     #[inline(always)]
-    fn run(self, alloc: Global, part: &(&'a [i64], &'a Segd)) -> Result<Vec<i64>, AllocError> {
-        scan(alloc, self.0, part.0, part.1.lengths())
+    fn run(
+        self,
+        shelf: &mut Shelf<i64>,
+        part: &(&'a [i64], &'a Segd),
+    ) -> Result<Vec<i64>, AllocError> {
+        scan(shelf, self.0, part.0, part.1.lengths())
     }
 }
 
 impl<'a> JoinedKernel<(&'a [i64], &'a Segd)> for ScanIntSegments {
     fn run_each(
         self,
-        alloc: Global,
+        shelf: &mut Shelf<i64>,
         parts: &[(&'a [i64], &'a Segd)],
     ) -> Result<Vec<Vec<i64>>, AllocError> {
         let ScanIntSegments(op) = self;
-        by_scan_z!(op, run_parts(alloc, ScanIntSegments(op), parts))
+        by_scan_z!(op, run_parts(shelf, ScanIntSegments(op), parts))
+    }
+}
+
+impl<'a> IntKernel<'a, (&'a [i64], &'a Segd)> for ScanIntSegments {
+    fn row(self, part: &(&'a [i64], &'a Segd)) -> Option<IntRow<'a>> {
+        None
     }
 }
 
@@ -52,18 +65,28 @@ impl<'a> Kernel<(&'a [bool], &'a Segd)> for ScanBoolSegments {
     ghost makes = { λ kernel p. segmented_scan (combine_b kernel.0) (unit_b kernel.0) p.1.now p.0.now };
 
     #[inline(always)]
-    fn run(self, alloc: Global, part: &(&'a [bool], &'a Segd)) -> Result<Vec<bool>, AllocError> {
-        scan(alloc, self.0, part.0, part.1.lengths())
+    fn run(
+        self,
+        shelf: &mut Shelf<bool>,
+        part: &(&'a [bool], &'a Segd),
+    ) -> Result<Vec<bool>, AllocError> {
+        scan(shelf, self.0, part.0, part.1.lengths())
     }
 }
 
 impl<'a> JoinedKernel<(&'a [bool], &'a Segd)> for ScanBoolSegments {
     fn run_each(
         self,
-        alloc: Global,
+        shelf: &mut Shelf<bool>,
         parts: &[(&'a [bool], &'a Segd)],
     ) -> Result<Vec<Vec<bool>>, AllocError> {
         let ScanBoolSegments(op) = self;
-        by_scan_b!(op, run_parts(alloc, ScanBoolSegments(op), parts))
+        by_scan_b!(op, run_parts(shelf, ScanBoolSegments(op), parts))
+    }
+}
+
+impl<'a> BoolKernel<'a, (&'a [bool], &'a Segd)> for ScanBoolSegments {
+    fn row(self, part: &(&'a [bool], &'a Segd)) -> Option<BoolRow<'a>> {
+        None
     }
 }

@@ -3,9 +3,13 @@
 ghost use Rattle.std.specs.Prelude.{◌≡◌, length};
 ghost use Rattle.scan_kernels.specs.Elementwise.{selected};
 
+use crate::joined_rows::{BoolKernel, IntKernel};
 use crate::kernel::{JoinedKernel, Kernel, run_parts};
+use crate::lists::Selected;
+use crate::rows::{BoolRow, IntRow};
 use crate::select::chosen;
-use std::alloc::{AllocError, Global};
+use crate::shelf::Shelf;
+use std::alloc::AllocError;
 
 /// The choice between two vectors by flags.
 #[derive(Clone, Copy)]
@@ -21,20 +25,27 @@ impl<'a> Kernel<(&'a [bool], &'a [i64], &'a [i64])> for Select {
     #[inline(always)]
     fn run(
         self,
-        alloc: Global,
+        shelf: &mut Shelf<i64>,
         part: &(&'a [bool], &'a [i64], &'a [i64]),
     ) -> Result<Vec<i64>, AllocError> {
-        chosen(alloc, part.0, part.1, part.2)
+        chosen(shelf, part.0, part.1, part.2)
     }
 }
 
 impl<'a> JoinedKernel<(&'a [bool], &'a [i64], &'a [i64])> for Select {
     fn run_each(
         self,
-        alloc: Global,
+        shelf: &mut Shelf<i64>,
         parts: &[(&'a [bool], &'a [i64], &'a [i64])],
     ) -> Result<Vec<Vec<i64>>, AllocError> {
-        run_parts(alloc, self, parts)
+        run_parts(shelf, self, parts)
+    }
+}
+
+impl<'a> IntKernel<'a, (&'a [bool], &'a [i64], &'a [i64])> for Select {
+    fn row(self, part: &(&'a [bool], &'a [i64], &'a [i64])) -> Option<IntRow<'a>> {
+        let (flags, set, unset) = *part;
+        Some(IntRow::Selected(Selected { flags, set, unset }))
     }
 }
 
@@ -48,19 +59,26 @@ impl<'a> Kernel<(&'a [bool], &'a [bool], &'a [bool])> for Select {
     #[inline(always)]
     fn run(
         self,
-        alloc: Global,
+        shelf: &mut Shelf<bool>,
         part: &(&'a [bool], &'a [bool], &'a [bool]),
     ) -> Result<Vec<bool>, AllocError> {
-        chosen(alloc, part.0, part.1, part.2)
+        chosen(shelf, part.0, part.1, part.2)
     }
 }
 
 impl<'a> JoinedKernel<(&'a [bool], &'a [bool], &'a [bool])> for Select {
     fn run_each(
         self,
-        alloc: Global,
+        shelf: &mut Shelf<bool>,
         parts: &[(&'a [bool], &'a [bool], &'a [bool])],
     ) -> Result<Vec<Vec<bool>>, AllocError> {
-        run_parts(alloc, self, parts)
+        run_parts(shelf, self, parts)
+    }
+}
+
+impl<'a> BoolKernel<'a, (&'a [bool], &'a [bool], &'a [bool])> for Select {
+    fn row(self, part: &(&'a [bool], &'a [bool], &'a [bool])) -> Option<BoolRow<'a>> {
+        let (flags, set, unset) = *part;
+        Some(BoolRow::Selected(Selected { flags, set, unset }))
     }
 }

@@ -5,10 +5,13 @@ ghost use Rattle.item_operations.specs.IntegerScans.{combine_z, unit_z};
 ghost use Rattle.scan_kernels.specs.Segmented.{scanned};
 
 use crate::choices::{by_name, by_scan_b, by_scan_z};
+use crate::joined_rows::{BoolKernel, IntKernel};
 use crate::kernel::{JoinedKernel, Kernel, run_parts};
+use crate::rows::{BoolRow, IntRow};
+use crate::shelf::Shelf;
 use crate::whole::scan_whole;
 use item_operations::{ScanB, ScanZ};
-use std::alloc::{AllocError, Global};
+use std::alloc::AllocError;
 
 /// The scan of all of a part of integers.
 #[derive(Clone, Copy)]
@@ -22,15 +25,25 @@ impl<'a> Kernel<&'a [i64]> for ScanInts {
     ghost makes = { λ kernel p. scanned (combine_z kernel.0) (unit_z kernel.0) p.now };
 
     #[inline(always)]
-    fn run(self, alloc: Global, part: &&'a [i64]) -> Result<Vec<i64>, AllocError> {
-        scan_whole(alloc, self.0, part)
+    fn run(self, shelf: &mut Shelf<i64>, part: &&'a [i64]) -> Result<Vec<i64>, AllocError> {
+        scan_whole(shelf, self.0, part)
     }
 }
 
 impl<'a> JoinedKernel<&'a [i64]> for ScanInts {
-    fn run_each(self, alloc: Global, parts: &[&'a [i64]]) -> Result<Vec<Vec<i64>>, AllocError> {
+    fn run_each(
+        self,
+        shelf: &mut Shelf<i64>,
+        parts: &[&'a [i64]],
+    ) -> Result<Vec<Vec<i64>>, AllocError> {
         let op = self.0;
-        by_scan_z!(op, run_parts(alloc, ScanInts(op), parts))
+        by_scan_z!(op, run_parts(shelf, ScanInts(op), parts))
+    }
+}
+
+impl<'a> IntKernel<'a, &'a [i64]> for ScanInts {
+    fn row(self, part: &&'a [i64]) -> Option<IntRow<'a>> {
+        None
     }
 }
 
@@ -46,14 +59,24 @@ impl<'a> Kernel<&'a [bool]> for ScanBools {
     ghost makes = { λ kernel p. scanned (combine_b kernel.0) (unit_b kernel.0) p.now };
 
     #[inline(always)]
-    fn run(self, alloc: Global, part: &&'a [bool]) -> Result<Vec<bool>, AllocError> {
-        scan_whole(alloc, self.0, part)
+    fn run(self, shelf: &mut Shelf<bool>, part: &&'a [bool]) -> Result<Vec<bool>, AllocError> {
+        scan_whole(shelf, self.0, part)
     }
 }
 
 impl<'a> JoinedKernel<&'a [bool]> for ScanBools {
-    fn run_each(self, alloc: Global, parts: &[&'a [bool]]) -> Result<Vec<Vec<bool>>, AllocError> {
+    fn run_each(
+        self,
+        shelf: &mut Shelf<bool>,
+        parts: &[&'a [bool]],
+    ) -> Result<Vec<Vec<bool>>, AllocError> {
         let op = self.0;
-        by_scan_b!(op, run_parts(alloc, ScanBools(op), parts))
+        by_scan_b!(op, run_parts(shelf, ScanBools(op), parts))
+    }
+}
+
+impl<'a> BoolKernel<'a, &'a [bool]> for ScanBools {
+    fn row(self, part: &&'a [bool]) -> Option<BoolRow<'a>> {
+        None
     }
 }

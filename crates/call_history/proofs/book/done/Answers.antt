@@ -8,8 +8,8 @@ use Rattle.call_history.specs.declared.work.Work.{Work}
 use Rattle.call_history.specs.Works.{IsWork}
 use Rattle.call_history.proofs.book.done.Goals as goal
 
-pub apply_with-requires : goal.apply_with-requires
-apply_with-requires c =
+pub apply_joined-requires : goal.apply_joined-requires
+apply_joined-requires c =
     let task = task_of c.args.call.now in
     let m = c.args.memory.now in
     let told = subst (λ (w : Work). IsWork w (work_on m task)) c.in-Store.is c.requires.work in

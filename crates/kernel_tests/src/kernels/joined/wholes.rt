@@ -1,21 +1,21 @@
 //! Kernels that take each part as one segment.
 
-use super::gives;
+use crate::joined_parts::{gives_bools, gives_ints};
 use crate::made::is_made;
-use scan_kernels::{
-    Index, Meter, Repeat, ScanB, ScanBools, ScanInts, ScanZ, reduce_whole_b_joined,
-    reduce_whole_z_joined, run_joined,
+use scan_kernels::joined::{
+    Index, Repeat, ScanBools, ScanInts, reduce_whole_b_joined, reduce_whole_z_joined,
 };
+use scan_kernels::{Meter, ScanB, ScanZ, run_joined};
 use std::process::Abort;
 
 #[test]
 fn scans_each_part(rt: HostRuntime) {
     let parts: [&[i64]; 3] = [&[4, 2, 9], &[], &[1]];
     let greatest: [&[i64]; 3] = [&[i64::MIN, 4, 4], &[], &[i64::MIN]];
-    assert!(rt; gives(&rt, rt.alloc(), ScanInts(ScanZ::Max), &parts, &greatest));
+    assert!(rt; gives_ints(&rt, rt.alloc(), ScanInts(ScanZ::Max), &parts, &greatest));
     let parts: [&[bool]; 3] = [&[], &[false, true, false], &[true]];
     let any: [&[bool]; 3] = [&[], &[false, false, true], &[false]];
-    assert!(rt; gives(&rt, rt.alloc(), ScanBools(ScanB::Ior), &parts, &any));
+    assert!(rt; gives_bools(&rt, rt.alloc(), ScanBools(ScanB::Ior), &parts, &any));
 }
 
 #[test]
@@ -34,16 +34,16 @@ fn reduces_each_part(rt: HostRuntime) {
 #[test]
 fn repeats_the_item_of_each_part(rt: HostRuntime) {
     let parts = [(7i64, 3usize), (8, 0), (-9, 1)];
-    assert!(rt; gives(&rt, rt.alloc(), Repeat, &parts, &[&[7, 7, 7], &[], &[-9]]));
+    assert!(rt; gives_ints(&rt, rt.alloc(), Repeat, &parts, &[&[7, 7, 7], &[], &[-9]]));
     let parts = [(true, 0usize), (false, 2)];
-    assert!(rt; gives(&rt, rt.alloc(), Repeat, &parts, &[&[], &[false, false]]));
+    assert!(rt; gives_bools(&rt, rt.alloc(), Repeat, &parts, &[&[], &[false, false]]));
 }
 
 #[test]
 fn rises_in_each_part(rt: HostRuntime) {
     let parts = [(1i64, 2i64, 3usize), (9, 9, 0), (i64::MAX, 1, 2)];
     let wanted: [&[i64]; 3] = [&[1, 3, 5], &[], &[i64::MAX, i64::MIN]];
-    assert!(rt; gives(&rt, rt.alloc(), Index, &parts, &wanted));
+    assert!(rt; gives_ints(&rt, rt.alloc(), Index, &parts, &wanted));
 }
 
 #[test]

@@ -1,7 +1,11 @@
-use Rattle.std.proofs.Common.{map, ap, ◌∙◌}
+use Rattle.std.proofs.Common.{rules, All, map, ap, ◌∙◌, subst, sym}
 use Rattle.vector_memory.specs.Contents.{Bools}
 use Rattle.cvl_calls.specs.Outcomes.{Stores}
 use Rattle.cvl_calls.proofs.joining.group.bools.Goals as goal
+
+pub bool_vectors-requires-sync-typeof-execution-Shared : goal.bool_vectors-requires-sync-typeof-execution-Shared
+bool_vectors-requires-sync-typeof-execution-Shared g c κs within =
+    (search rules, (search rules, subst (All (g.K.Kernel.Takes c.args.kernel)) (sym c.deref.ensures.value) c.in_ok-parts.ensures.takes))
 
 pub returns-clause-makes : goal.returns-clause-makes
 returns-clause-makes g c =

@@ -1,0 +1,9 @@
+use Rattle.scan_kernels.specs.Lists.{bools_of}
+use Rattle.scan_kernels.proofs.InTurn.{written_both}
+use Rattle.scan_kernels.proofs.in_turn.+bools.Goals as goal
+
+pub write_bools_in_turn-returns : goal.write_bools_in_turn-returns
+write_bools_in_turn-returns g t c =
+    let cut = c.split_at_mut-first in
+    written_both (bools_of c.args.row) c.args.part.now cut.result.0.now cut.result.1.now _ _ c.args.start c.args.size cut.ensures.value cut.ensures.front_len
+    c.write_both_bools.ensures.first c.write_both_bools.ensures.rest

@@ -1,0 +1,311 @@
+//! A joined run whose results are written as rows, by chunks of parts, where that pays.
+
+ghost use Rattle.std.specs.Prelude.{◌≡◌, ◌<◌, length, map, All, IfOk, IfSome};
+ghost use Rattle.segment_desc.specs.Appended.{IsExact};
+ghost use Rattle.scan_kernels.specs.Lists.{FitBools, FitInts, bools_of, ints_of};
+ghost use Rattle.scan_kernels.specs.Metering.{CountsRun};
+ghost use Rattle.scan_kernels.specs.Parts.{parts_made};
+ghost use Rattle.scan_kernels.specs.RowLists.{AreAsLong};
+
+use crate::chunks::{joined_size, may_go_by_chunks};
+use crate::execution::Execution;
+use crate::kernel::JoinedKernel;
+use crate::meter::Meter;
+use crate::rows::{BoolRow, IntRow, count_bools, count_ints};
+use crate::shelf::Shelf;
+use crate::source::Source;
+use segment_desc::OutOfMemory;
+use std::alloc::{AllocError, Global};
+
+/// A kernel whose results are integers, each of which can be written by itself.
+pub trait IntKernel<'a, P>: JoinedKernel<P, Item = i64> {
+    /// The result of a part as a row. There is none where a row has to be prepared.
+    fn row(self, part: &P) -> Option<IntRow<'a>>
+        requires { Self.Takes self part.now }
+        ensures fits { IfSome result FitInts }
+        ensures items { IfSome result (λ row. ints_of row ≡ Self.makes self part.now) };
+}
+
+/// A kernel whose results are truth values, each of which can be written by itself.
+pub trait BoolKernel<'a, P>: JoinedKernel<P, Item = bool> {
+    /// The result of a part as a row. There is none where a row has to be prepared.
+    fn row(self, part: &P) -> Option<BoolRow<'a>>
+        requires { Self.Takes self part.now }
+        ensures fits { IfSome result FitBools }
+        ensures items { IfSome result (λ row. bools_of row ≡ Self.makes self part.now) };
+}
+
+/// The results of all parts as rows, if each is one and there is memory for their list.
+fn int_rows<'a, P, K: IntKernel<'a, P>>(
+    alloc: Global,
+    kernel: K,
+    parts: &[P],
+) -> Option<Vec<IntRow<'a>>>
+    requires { All (K.Takes kernel) parts.now }
+    ensures fits { IfSome result (λ rows. All FitInts rows.items) }
+    ensures items { IfSome result (λ rows. map ints_of rows.items ≡ map (K.makes kernel) parts.now) }
+{
+    let mut rows = Vec::with_capacity(alloc, parts.len()).ok()?;
+    for part in parts {
+        rows.push_reserved(kernel.row(part)?);
+    }
+    Some(rows)
+}
+
+/// How many integers the rows have, or as many as can be told.
+fn total_ints(rows: &[IntRow<'_>]) -> usize
+    requires { All FitInts rows.now }
+{
+    let mut total: usize = 0;
+    for row in rows {
+        total = total.saturating_add(count_ints(*row));
+    }
+    total
+}
+
+/// How many of the rows have so many integers.
+fn alike_ints(rows: &[IntRow<'_>], count: usize) -> usize
+    requires { All FitInts rows.now }
+{
+    let mut alike: usize = 0;
+    for row in rows {
+        if count_ints(*row) == count {
+            alike = alike.saturating_add(1);
+        }
+    }
+    alike
+}
+
+/// Whether a vector for each row lies on the shelf.
+fn lie_ready_ints(shelf: &Shelf<i64>, rows: &[IntRow<'_>]) -> bool
+    requires { All FitInts rows.now }
+{
+    for row in rows {
+        let count = count_ints(*row);
+        if !shelf.has_ready(count, alike_ints(rows, count)) {
+            return false;
+        }
+    }
+    true
+}
+
+/// The rows of the parts, and how many of them make a chunk, if they go by chunks.
+fn chunked_ints<'a, P, K: IntKernel<'a, P>>(
+    execution: &impl Execution,
+    shelf: &Shelf<i64>,
+    meter: &Meter,
+    kernel: K,
+    parts: &[P],
+) -> Option<(Vec<IntRow<'a>>, usize)>
+    requires { All (K.Takes kernel) parts.now }
+    ensures size { IfSome result (λ chunked. 0 < chunked.1) }
+    ensures fits { IfSome result (λ chunked. All FitInts chunked.0.items) }
+    ensures items { IfSome result (λ chunked. map ints_of chunked.0.items ≡ map (K.makes kernel) parts.now) }
+{
+    if !may_go_by_chunks(meter, shelf.space()) {
+        return None;
+    }
+    let rows = int_rows(shelf.allocator(), kernel, parts)?;
+    let total = total_ints(&rows);
+    let ready = lie_ready_ints(shelf, &rows);
+    let size = joined_size(execution, meter, rows.len(), total, ready)?;
+    Some((rows, size))
+}
+
+/// A vector of as many items, which are to be written over.
+fn ready_ints(shelf: &mut Shelf<i64>, count: usize) -> Result<Vec<i64>, AllocError>
+    ensures long { IfOk result (λ v. length v.items ≡ count) }
+    ensures exact { IfOk result (λ v. IsExact v) }
+{
+    shelf.ready(0, count)
+}
+
+/// A vector for each row, with as many items.
+fn int_lists(shelf: &mut Shelf<i64>, rows: &[IntRow<'_>]) -> Result<Vec<Vec<i64>>, AllocError>
+    requires { All FitInts rows.now }
+    ensures long { IfOk result (λ lists. AreAsLong ints_of rows.now 0 lists.items) }
+    ensures count { IfOk result (λ lists. length lists.items ≡ length rows.now) }
+    ensures exact { IfOk result (λ lists. All IsExact lists.items) }
+{
+    let mut lists = Vec::with_capacity(shelf.allocator(), rows.len())?;
+    for row in rows {
+        lists.push_reserved(ready_ints(shelf, count_ints(*row))?);
+    }
+    Ok(lists)
+}
+
+/// The integers of each row, in a vector of its own, by chunks of so many rows.
+fn int_lists_by_chunks(
+    execution: &impl Execution,
+    shelf: &mut Shelf<i64>,
+    rows: &[IntRow<'_>],
+    size: usize,
+) -> Result<Vec<Vec<i64>>, AllocError>
+    requires size { 0 < size }
+    requires fits { All FitInts rows.now }
+    ensures items { IfOk result (λ made. parts_made made.items ≡ map ints_of rows.now) }
+    ensures exact { IfOk result (λ made. All IsExact made.items) }
+{
+    let mut lists = int_lists(shelf, rows)?;
+    execution.write_each_ints(rows, size, &mut lists);
+    Ok(lists)
+}
+
+/// `run_joined` of a kernel of integers, whose results take vectors off a shelf, in threads where that pays: by chunks of whole parts.
+pub fn run_joined_ints<'a, P, K: IntKernel<'a, P>>(
+    execution: &impl Execution,
+    shelf: &mut Shelf<i64>,
+    meter: &mut Meter,
+    kernel: K,
+    parts: &[P],
+) -> Result<Vec<Vec<i64>>, OutOfMemory>
+    requires { All (K.Takes kernel) parts.now }
+    ensures parts { IfOk result (λ made. parts_made made.items ≡ map (K.makes kernel) parts.now) }
+    ensures exact { IfOk result (λ made. All IsExact made.items) }
+    ensures counted { CountsRun result meter.old meter.new }
+{
+    let made = match chunked_ints(execution, shelf, meter, kernel, parts) {
+        Some((rows, size)) => int_lists_by_chunks(execution, shelf, &rows, size)?,
+        None => kernel.run_each(shelf, parts)?,
+    };
+    meter.raise();
+    Ok(made)
+}
+
+/// The results of all parts as rows, if each is one and there is memory for their list.
+fn bool_rows<'a, P, K: BoolKernel<'a, P>>(
+    alloc: Global,
+    kernel: K,
+    parts: &[P],
+) -> Option<Vec<BoolRow<'a>>>
+    requires { All (K.Takes kernel) parts.now }
+    ensures fits { IfSome result (λ rows. All FitBools rows.items) }
+    ensures items { IfSome result (λ rows. map bools_of rows.items ≡ map (K.makes kernel) parts.now) }
+{
+    let mut rows = Vec::with_capacity(alloc, parts.len()).ok()?;
+    for part in parts {
+        rows.push_reserved(kernel.row(part)?);
+    }
+    Some(rows)
+}
+
+/// How many truth values the rows have, or as many as can be told.
+fn total_bools(rows: &[BoolRow<'_>]) -> usize
+    requires { All FitBools rows.now }
+{
+    let mut total: usize = 0;
+    for row in rows {
+        total = total.saturating_add(count_bools(*row));
+    }
+    total
+}
+
+/// How many of the rows have so many truth values.
+fn alike_bools(rows: &[BoolRow<'_>], count: usize) -> usize
+    requires { All FitBools rows.now }
+{
+    let mut alike: usize = 0;
+    for row in rows {
+        if count_bools(*row) == count {
+            alike = alike.saturating_add(1);
+        }
+    }
+    alike
+}
+
+/// Whether a vector for each row lies on the shelf.
+fn lie_ready_bools(shelf: &Shelf<bool>, rows: &[BoolRow<'_>]) -> bool
+    requires { All FitBools rows.now }
+{
+    for row in rows {
+        let count = count_bools(*row);
+        if !shelf.has_ready(count, alike_bools(rows, count)) {
+            return false;
+        }
+    }
+    true
+}
+
+/// The rows of the parts, and how many of them make a chunk, if they go by chunks.
+fn chunked_bools<'a, P, K: BoolKernel<'a, P>>(
+    execution: &impl Execution,
+    shelf: &Shelf<bool>,
+    meter: &Meter,
+    kernel: K,
+    parts: &[P],
+) -> Option<(Vec<BoolRow<'a>>, usize)>
+    requires { All (K.Takes kernel) parts.now }
+    ensures size { IfSome result (λ chunked. 0 < chunked.1) }
+    ensures fits { IfSome result (λ chunked. All FitBools chunked.0.items) }
+    ensures items { IfSome result (λ chunked. map bools_of chunked.0.items ≡ map (K.makes kernel) parts.now) }
+{
+    if !may_go_by_chunks(meter, shelf.space()) {
+        return None;
+    }
+    let rows = bool_rows(shelf.allocator(), kernel, parts)?;
+    let total = total_bools(&rows);
+    let ready = lie_ready_bools(shelf, &rows);
+    let size = joined_size(execution, meter, rows.len(), total, ready)?;
+    Some((rows, size))
+}
+
+/// A vector of as many items, which are to be written over.
+fn ready_bools(shelf: &mut Shelf<bool>, count: usize) -> Result<Vec<bool>, AllocError>
+    ensures long { IfOk result (λ v. length v.items ≡ count) }
+    ensures exact { IfOk result (λ v. IsExact v) }
+{
+    shelf.ready(false, count)
+}
+
+/// A vector for each row, with as many items.
+fn bool_lists(shelf: &mut Shelf<bool>, rows: &[BoolRow<'_>]) -> Result<Vec<Vec<bool>>, AllocError>
+    requires { All FitBools rows.now }
+    ensures long { IfOk result (λ lists. AreAsLong bools_of rows.now 0 lists.items) }
+    ensures count { IfOk result (λ lists. length lists.items ≡ length rows.now) }
+    ensures exact { IfOk result (λ lists. All IsExact lists.items) }
+{
+    let mut lists = Vec::with_capacity(shelf.allocator(), rows.len())?;
+    for row in rows {
+        lists.push_reserved(ready_bools(shelf, count_bools(*row))?);
+    }
+    Ok(lists)
+}
+
+/// The truth values of each row, in a vector of its own, by chunks of so many rows.
+fn bool_lists_by_chunks(
+    execution: &impl Execution,
+    shelf: &mut Shelf<bool>,
+    rows: &[BoolRow<'_>],
+    size: usize,
+) -> Result<Vec<Vec<bool>>, AllocError>
+    requires size { 0 < size }
+    requires fits { All FitBools rows.now }
+    ensures items { IfOk result (λ made. parts_made made.items ≡ map bools_of rows.now) }
+    ensures exact { IfOk result (λ made. All IsExact made.items) }
+{
+    let mut lists = bool_lists(shelf, rows)?;
+    execution.write_each_bools(rows, size, &mut lists);
+    Ok(lists)
+}
+
+/// `run_joined` of a kernel of truth values, whose results take vectors off a shelf, in threads where that pays: by chunks of whole
+/// parts.
+pub fn run_joined_bools<'a, P, K: BoolKernel<'a, P>>(
+    execution: &impl Execution,
+    shelf: &mut Shelf<bool>,
+    meter: &mut Meter,
+    kernel: K,
+    parts: &[P],
+) -> Result<Vec<Vec<bool>>, OutOfMemory>
+    requires { All (K.Takes kernel) parts.now }
+    ensures parts { IfOk result (λ made. parts_made made.items ≡ map (K.makes kernel) parts.now) }
+    ensures exact { IfOk result (λ made. All IsExact made.items) }
+    ensures counted { CountsRun result meter.old meter.new }
+{
+    let made = match chunked_bools(execution, shelf, meter, kernel, parts) {
+        Some((rows, size)) => bool_lists_by_chunks(execution, shelf, &rows, size)?,
+        None => kernel.run_each(shelf, parts)?,
+    };
+    meter.raise();
+    Ok(made)
+}

@@ -1,0 +1,140 @@
+//! Vectors whose items are of no use any more, for the results of a joined run, which makes many at once.
+
+ghost use Rattle.std.specs.Prelude.{◌≡◌, ◌+◌, ◌<◌, ◌≤◌, length, vec_capacity, IfErr, OnErr, OnOk};
+
+use crate::source::{Kept, Source, filled};
+use std::alloc::{AllocError, Global};
+use std::marker::Model;
+
+/// The greatest number of vectors on a shelf: as many as a batch has calls.
+const SHELF_LIMIT: usize = 64;
+
+/// From how many items on a vector is worth a place on a shelf: a smaller one is had of the allocator as fast.
+pub const WORTH_A_PLACE: usize = 1024;
+
+/// Vectors whose items are of no use any more, at most 64. Each result of `WORTH_A_PLACE` items or more takes one of them
+/// away: one that has space for as many items and for no more, or else the last, which goes back to its allocator. To a contract it is
+/// for how many items they have space.
+#[derive(Drop)]
+pub struct Shelf<T> {
+    vectors: Vec<Vec<T>>,
+    space: usize,
+}
+
+impl<T> Model for Shelf<T> {
+    ghost use Rattle.std.specs.Prelude.{ℕ};
+    ghost use Rattle.scan_kernels.specs.Shelves.{IsShelf};
+
+    ghost Value = { ℕ };
+
+    ghost view = { λ s. s.space };
+
+    ghost invariant = { λ s. IsShelf s.vectors.items s.space };
+}
+
+/// Where a vector with space for so many items lies, and for no more; else the last place.
+fn place_of<T>(vectors: &[Vec<T>], capacity: usize) -> usize
+    requires { 0 < length vectors.now }
+    ensures { result < length vectors.now }
+{
+    for place in 0..vectors.len() {
+        if vectors[place].capacity() == capacity {
+            return place;
+        }
+    }
+    vectors.len() - 1
+}
+
+/// How many of the vectors have so many items, and no more space.
+fn full_ones<T>(vectors: &[Vec<T>], count: usize) -> usize {
+    let mut full: usize = 0;
+    for vector in vectors {
+        if vector.len() == count && vector.capacity() == count {
+            full = full.saturating_add(1);
+        }
+    }
+    full
+}
+
+impl<T> Shelf<T> {
+    /// Nothing lies on it yet.
+    pub fn new(alloc: Global) -> Shelf<T>
+        ensures { result ≡ 0 }
+    {
+        Shelf {
+            vectors: Vec::new(alloc),
+            space: 0,
+        }
+    }
+
+    /// For how many items its vectors have space.
+    pub fn space(&self) -> usize
+        ensures { result ≡ self.now }
+    {
+        self.space
+    }
+
+    /// The allocator of its vectors.
+    pub fn allocator(&self) -> Global {
+        *self.vectors.allocator()
+    }
+
+    /// Whether so many vectors with so many items lie on it, or so few items are asked for that none is needed.
+    pub fn has_ready(&self, count: usize, many: usize) -> bool {
+        count < WORTH_A_PLACE || full_ones(&self.vectors, count) >= many
+    }
+
+    /// Puts a vector to the others, if there is a place for it and they then have space for at most so many items. Else it comes back,
+    /// as it does where the list of them cannot grow.
+    pub fn keep(&mut self, vector: Vec<T>, most: usize) -> Result<(), Vec<T>>
+        ensures kept { OnOk result (self.new ≡ self.old + vec_capacity vector) }
+        ensures bounded { OnOk result (self.new ≤ most) }
+        ensures back { IfErr result (λ v. v ≡ vector) }
+        ensures unchanged { OnErr result (self.new ≡ self.old) }
+    {
+        let capacity = vector.capacity();
+        if self.vectors.len() >= SHELF_LIMIT || self.space > most || capacity > most - self.space {
+            return Err(vector);
+        }
+        let Ok(()) = self.vectors.reserve(1) else {
+            return Err(vector);
+        };
+        self.vectors.push_reserved(vector);
+        self.space += capacity;
+        Ok(())
+    }
+
+    /// A vector for a result of so many items, with any items and any space: empty where none lies here.
+    #[inline(never)]
+    fn take(&mut self, capacity: usize) -> Vec<T> {
+        if self.vectors.is_empty() {
+            return Vec::new(self.allocator());
+        }
+        let place = place_of(&self.vectors, capacity);
+        let vector = self.vectors.swap_remove(place);
+        self.space -= vector.capacity();
+        vector
+    }
+}
+
+// A kernel takes a vector off the shelf for each result, unless it is of few items.
+impl<T: Copy> Source<T> for &mut Shelf<T> {
+    #[inline(always)]
+    fn vector(self, capacity: usize) -> Result<Vec<T>, AllocError> {
+        if capacity < WORTH_A_PLACE {
+            return Vec::with_capacity(self.allocator(), capacity);
+        }
+        Kept::new(self.take(capacity)).vector(capacity)
+    }
+
+    fn is_ready(&self, count: usize) -> bool {
+        full_ones(&self.vectors, count) > 0
+    }
+
+    fn ready(self, item: T, count: usize) -> Result<Vec<T>, AllocError> {
+        if count < WORTH_A_PLACE {
+            return filled(self.allocator(), item, count);
+        }
+        Kept::new(self.take(count)).ready(item, count)
+    }
+}
