@@ -8,42 +8,30 @@ use scan_kernels::{
 };
 use std::alloc::Global;
 use std::process::Abort;
+use std::thread::Threads;
 
 /// Whether the results of the parts are these.
 pub(crate) fn are_parts<T: PartialEq>(made: &[Vec<T>], wanted: &[&[T]]) -> bool {
     made.len() == wanted.len() && made.iter().zip(wanted).all(|(v, w)| v.as_slice() == *w)
 }
 
-/// Whether the kernel gives these integers of the parts by chunks of a size, in one run.
-fn gives_ints_by<'a, P, K: IntKernel<'a, P>>(
-    rt: &impl Abort,
-    execution: &impl Execution,
-    alloc: Global,
-    kernel: K,
-    parts: &[P],
-    chunk: usize,
-    wanted: &[&[i64]],
-) -> bool
-    requires { All (K.Takes kernel) parts.now }
-{
-    let mut meter = Meter::with_chunk(chunk);
-    let made = run_joined_ints(execution, &mut Shelf::new(alloc), &mut meter, kernel, parts);
-    are_parts(&made.expect(rt, "memory"), wanted) && meter.runs() == 1
-}
-
-/// Whether the kernel gives these integers of the parts, in one run.
-pub(crate) fn gives_ints<'a, P, K: IntKernel<'a, P>, R: Abort + Execution>(
-    rt: &R,
-    alloc: Global,
-    kernel: K,
-    parts: &[P],
-    wanted: &[&[i64]],
-) -> bool
+/// Whether the kernel gives these integers of the parts, each time in one run: in one thread, and by chunks of several sizes, in threads
+/// and in the calling thread.
+pub(crate) fn gives_ints<
+    'a,
+    P,
+    K: IntKernel<'a, P>,
+    R: Abort + Threads + Execution<Shared = R> + Sync,
+>(rt: &R, alloc: Global, kernel: K, parts: &[P], wanted: &[&[i64]]) -> bool
     requires { All (K.Takes kernel) parts.now }
 {
     for chunk in [1, 2, 7] {
-        if !gives_ints_by(rt, rt, alloc, kernel, parts, chunk, wanted)
-            || !gives_ints_by(rt, &Sequential, alloc, kernel, parts, chunk, wanted)
+        let (mut meter, mut shelf) = (Meter::with_chunk(chunk), Shelf::new(alloc));
+        let made = run_joined_ints(rt, &mut shelf, &mut meter, kernel, parts).expect(rt, "memory");
+        let alone = run_joined_ints(&Sequential, &mut shelf, &mut meter, kernel, parts);
+        if meter.runs() != 2
+            || !are_parts(&made, wanted)
+            || !are_parts(&alone.expect(rt, "memory"), wanted)
         {
             return false;
         }
@@ -53,36 +41,23 @@ pub(crate) fn gives_ints<'a, P, K: IntKernel<'a, P>, R: Abort + Execution>(
     are_parts(&made, wanted) && meter.runs() == 1
 }
 
-/// Whether the kernel gives these truth values of the parts by chunks of a size, in one run.
-fn gives_bools_by<'a, P, K: BoolKernel<'a, P>>(
-    rt: &impl Abort,
-    execution: &impl Execution,
-    alloc: Global,
-    kernel: K,
-    parts: &[P],
-    chunk: usize,
-    wanted: &[&[bool]],
-) -> bool
-    requires { All (K.Takes kernel) parts.now }
-{
-    let mut meter = Meter::with_chunk(chunk);
-    let made = run_joined_bools(execution, &mut Shelf::new(alloc), &mut meter, kernel, parts);
-    are_parts(&made.expect(rt, "memory"), wanted) && meter.runs() == 1
-}
-
-/// Whether the kernel gives these truth values of the parts, in one run.
-pub(crate) fn gives_bools<'a, P, K: BoolKernel<'a, P>, R: Abort + Execution>(
-    rt: &R,
-    alloc: Global,
-    kernel: K,
-    parts: &[P],
-    wanted: &[&[bool]],
-) -> bool
+/// Whether the kernel gives these truth values of the parts, each time in one run: in one thread, and by chunks of several sizes, in threads
+/// and in the calling thread.
+pub(crate) fn gives_bools<
+    'a,
+    P,
+    K: BoolKernel<'a, P>,
+    R: Abort + Threads + Execution<Shared = R> + Sync,
+>(rt: &R, alloc: Global, kernel: K, parts: &[P], wanted: &[&[bool]]) -> bool
     requires { All (K.Takes kernel) parts.now }
 {
     for chunk in [1, 2, 7] {
-        if !gives_bools_by(rt, rt, alloc, kernel, parts, chunk, wanted)
-            || !gives_bools_by(rt, &Sequential, alloc, kernel, parts, chunk, wanted)
+        let (mut meter, mut shelf) = (Meter::with_chunk(chunk), Shelf::new(alloc));
+        let made = run_joined_bools(rt, &mut shelf, &mut meter, kernel, parts).expect(rt, "memory");
+        let alone = run_joined_bools(&Sequential, &mut shelf, &mut meter, kernel, parts);
+        if meter.runs() != 2
+            || !are_parts(&made, wanted)
+            || !are_parts(&alone.expect(rt, "memory"), wanted)
         {
             return false;
         }
