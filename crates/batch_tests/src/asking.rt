@@ -60,6 +60,7 @@ pub(crate) fn serve(
 ) -> Served {
     let mut requests = batch_of(rt, alloc, lines);
     let mut outcomes = Vec::with_capacity(alloc, BATCH_LIMIT).expect(rt, "memory");
+    assert!(rt; chunk > 0);
     let mut meter = Meter::with_chunk(chunk);
     let ran = run_batch(
         &Sequential,

@@ -1,6 +1,6 @@
 //! Kernels that take each part as one segment.
 
-use crate::joined_parts::{gives_bools, gives_ints};
+use crate::joined_parts::{are_parts, gives_bools, gives_ints};
 use crate::made::is_made;
 use scan_kernels::joined::{
     Index, Repeat, ScanBools, ScanInts, reduce_whole_b_joined, reduce_whole_z_joined,
@@ -41,9 +41,12 @@ fn repeats_the_item_of_each_part(rt: HostRuntime) {
 
 #[test]
 fn rises_in_each_part(rt: HostRuntime) {
+    let mut meter = Meter::new();
     let parts = [(1i64, 2i64, 3usize), (9, 9, 0), (i64::MAX, 1, 2)];
     let wanted: [&[i64]; 3] = [&[1, 3, 5], &[], &[i64::MAX, i64::MIN]];
-    assert!(rt; gives_ints(&rt, rt.alloc(), Index, &parts, &wanted));
+    let made = run_joined(&rt, rt.alloc(), &mut meter, Index, &parts).expect(&rt, "memory");
+    assert!(rt; are_parts(&made, &wanted));
+    assert!(rt; meter.runs() == 1);
 }
 
 #[test]
