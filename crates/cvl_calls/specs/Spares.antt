@@ -6,7 +6,11 @@ use Rattle.std.specs.declared.alloc.Global.{Global}
 abbrev pub kept_each : ℕ
 kept_each = 8388608
 
--- and of all those of a kind that are kept for joined runs
+-- the greatest number of bytes of the last vector of each kind
+abbrev pub kept_beside : ℕ
+kept_beside = 16777216
+
+-- the greatest number of bytes of all vectors of a kind that are kept for joined runs
 abbrev pub shelved_each : ℕ
 shelved_each = 16777216
 

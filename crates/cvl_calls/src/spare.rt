@@ -1,7 +1,7 @@
 //! Vectors that were replaced, kept for the next results: the last of each kind for a call by itself, and more for a joined run.
 
 ghost use Rattle.std.specs.Prelude.{◌≡◌, ◌+◌, ◌≤◌};
-ghost use Rattle.cvl_calls.specs.Spares.{kept_limit};
+ghost use Rattle.cvl_calls.specs.Spares.{kept_beside, kept_limit};
 
 use crate::shelves::Shelves;
 use scan_kernels::{Kept, Source, WORTH_A_PLACE};
@@ -113,14 +113,19 @@ impl Spare {
     /// Takes out the vectors that are kept for joined runs, and leaves none.
     #[inline(always)]
     pub fn take_shelves(&mut self) -> Shelves
-        ensures { self.old ≡ self.new + result }
+        ensures taken { self.old ≡ self.new + result }
+        ensures left { self.new ≤ kept_beside }
     {
         mem::replace(&mut self.shelves, Shelves::new())
     }
 
     /// Puts vectors in the place of those that are kept for joined runs.
     #[inline(always)]
-    pub fn put_shelves(&mut self, shelves: Shelves) {
+    pub fn put_shelves(&mut self, shelves: Shelves)
+        ensures put { shelves ≤ self.new }
+        ensures no_more { self.new ≤ self.old + shelves }
+        ensures left { self.new ≤ kept_beside + shelves }
+    {
         self.shelves = shelves;
     }
 }

@@ -12,7 +12,7 @@ use crate::execution::Execution;
 use crate::kernel::JoinedKernel;
 use crate::meter::Meter;
 use crate::rows::{BoolRow, IntRow, count_bools, count_ints};
-use crate::shelf::Shelf;
+use crate::shelf::{Shelf, WORTH_A_PLACE};
 use crate::source::Source;
 use segment_desc::OutOfMemory;
 use std::alloc::{AllocError, Global};
@@ -76,13 +76,13 @@ fn alike_ints(rows: &[IntRow<'_>], count: usize) -> usize
     alike
 }
 
-/// Whether a vector for each row lies on the shelf.
+/// Whether a vector lies on the shelf for each row of many items. As few lie there, at most 65 rows are compared with all others.
 fn lie_ready_ints(shelf: &Shelf<i64>, rows: &[IntRow<'_>]) -> bool
     requires { All FitInts rows.now }
 {
     for row in rows {
         let count = count_ints(*row);
-        if !shelf.has_ready(count, alike_ints(rows, count)) {
+        if count >= WORTH_A_PLACE && shelf.full_ones(count) < alike_ints(rows, count) {
             return false;
         }
     }
@@ -213,13 +213,13 @@ fn alike_bools(rows: &[BoolRow<'_>], count: usize) -> usize
     alike
 }
 
-/// Whether a vector for each row lies on the shelf.
+/// Whether a vector lies on the shelf for each row of many items. As few lie there, at most 65 rows are compared with all others.
 fn lie_ready_bools(shelf: &Shelf<bool>, rows: &[BoolRow<'_>]) -> bool
     requires { All FitBools rows.now }
 {
     for row in rows {
         let count = count_bools(*row);
-        if !shelf.has_ready(count, alike_bools(rows, count)) {
+        if count >= WORTH_A_PLACE && shelf.full_ones(count) < alike_bools(rows, count) {
             return false;
         }
     }

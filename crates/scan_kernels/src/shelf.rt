@@ -45,17 +45,6 @@ fn place_of<T>(vectors: &[Vec<T>], capacity: usize) -> usize
     vectors.len() - 1
 }
 
-/// How many of the vectors have so many items, and no more space.
-fn full_ones<T>(vectors: &[Vec<T>], count: usize) -> usize {
-    let mut full: usize = 0;
-    for vector in vectors {
-        if vector.len() == count && vector.capacity() == count {
-            full = full.saturating_add(1);
-        }
-    }
-    full
-}
-
 impl<T> Shelf<T> {
     /// Nothing lies on it yet.
     pub fn new(alloc: Global) -> Shelf<T>
@@ -79,9 +68,15 @@ impl<T> Shelf<T> {
         *self.vectors.allocator()
     }
 
-    /// Whether so many vectors with so many items lie on it, or so few items are asked for that none is needed.
-    pub fn has_ready(&self, count: usize, many: usize) -> bool {
-        count < WORTH_A_PLACE || full_ones(&self.vectors, count) >= many
+    /// How many of its vectors have so many items, and no more space.
+    pub(crate) fn full_ones(&self, count: usize) -> usize {
+        let mut full: usize = 0;
+        for vector in &self.vectors {
+            if vector.len() == count && vector.capacity() == count {
+                full = full.saturating_add(1);
+            }
+        }
+        full
     }
 
     /// Puts a vector to the others, if there is a place for it and they then have space for at most so many items. Else it comes back,
@@ -128,7 +123,7 @@ impl<T: Copy> Source<T> for &mut Shelf<T> {
     }
 
     fn is_ready(&self, count: usize) -> bool {
-        full_ones(&self.vectors, count) > 0
+        self.full_ones(count) > 0
     }
 
     fn ready(self, item: T, count: usize) -> Result<Vec<T>, AllocError> {
