@@ -1,6 +1,6 @@
 //! The rows of batches: alike calls `xk = add_wuz a b` in one batch beside the same calls one by one, and planning alone.
 //! Both ways begin with the same list of requests, and each runs on a book of its own. They take turns, and of each the
-//! least time counts. Rows `batch threads` are the same with a runtime as the policy.
+//! least time counts. Rows `batch threads` are the same with a runtime as the policy, and those of scans and reductions.
 
 ghost use Rattle.std.specs.Prelude.{◌≡◌, ◌≢◌, ◌<◌, ◌≤◌, [], length, vec_len, OnSome};
 ghost use Rattle.std.specs.List.{AllByRecursion, AllPairs};
@@ -10,7 +10,7 @@ ghost use Rattle.call_history.specs.Fits.{IsLawfulJob};
 use crate::operands::{name, numbers};
 use batch_flatten::{BATCH_LIMIT, run_batch};
 use call_history::{Book, CALLER_LIMIT, Job, Outcome, Request};
-use cvl_text::{Call, Z2};
+use cvl_text::{Call, ScanZ, Z2};
 use scan_kernels::{Execution, Meter, Sequential};
 use std::alloc::Global;
 use std::io;
@@ -47,11 +47,16 @@ enum Shape {
     Alike,
     /// `x = add_wuz x b`, each of which reads the target of all before it: as many waves as calls.
     Chain,
+    /// `xk = add_suz a`, each with a target of its own.
+    Scans,
+    /// `add_ruz a`, each of which replies a sum.
+    Sums,
 }
 
 /// The calls of a batch: their targets, and the two names that they read.
 #[derive(Drop)]
 struct Calls {
+    shape: Shape,
     targets: Vec<Name>,
     left: Name,
     right: Name,
@@ -75,14 +80,14 @@ enum Way {
 
 fn calls_of(alloc: Global, shape: Shape, count: u32) -> Option<Calls> {
     let left = match shape {
-        Shape::Alike => name(b'a', 0)?,
         Shape::Chain => name(b'x', 0)?,
+        Shape::Alike | Shape::Scans | Shape::Sums => name(b'a', 0)?,
     };
     let mut targets = Vec::new(alloc);
     for k in 0..count {
         let target = match shape {
-            Shape::Alike => name(b'x', u64::from(k))?,
             Shape::Chain => left,
+            Shape::Alike | Shape::Scans | Shape::Sums => name(b'x', u64::from(k))?,
         };
         targets.push(target).ok()?;
     }
@@ -90,6 +95,7 @@ fn calls_of(alloc: Global, shape: Shape, count: u32) -> Option<Calls> {
         return None;
     }
     Some(Calls {
+        shape,
         targets,
         left,
         right: name(b'b', 0)?,
@@ -112,6 +118,26 @@ fn prepare(alloc: Global, book: &mut Book, calls: &Calls, items: u32, space: u32
     book.reserve(space as usize).ok()
 }
 
+/// The call with this target.
+fn call_to(calls: &Calls, to: Name) -> Call {
+    let (a, b) = (calls.left, calls.right);
+    match calls.shape {
+        Shape::Alike | Shape::Chain => Call::MapZ2 {
+            op: Z2::Add,
+            to,
+            a,
+            b,
+        },
+        Shape::Scans => Call::ScanOfZ {
+            op: ScanZ::Add,
+            to,
+            a,
+            s: None,
+        },
+        Shape::Sums => Call::RedZ { op: ScanZ::Add, a },
+    }
+}
+
 /// The requests of the calls, of a caller each.
 fn ask(requests: &mut Vec<Request>, calls: &Calls) -> Option<()>
     ensures few { OnSome result (vec_len requests.new ≤ BATCH_LIMIT) }
@@ -121,12 +147,7 @@ fn ask(requests: &mut Vec<Request>, calls: &Calls) -> Option<()>
 {
     requests.clear();
     for k in 0..calls.targets.len() {
-        let job = Job::One(Call::MapZ2 {
-            to: calls.targets[k],
-            op: Z2::Add,
-            a: calls.left,
-            b: calls.right,
-        });
+        let job = Job::One(call_to(calls, calls.targets[k]));
         let caller = k as u64;
         let request = Request { caller, job };
         let Ok(()) = requests.push(request) else {
@@ -306,6 +327,8 @@ pub fn rows<R: Alloc<A = Global> + Clock + Print + Threads + Execution<Shared = 
     row(rt, &Sequential, "batch", Shape::Alike, 16, 65_536)?;
     for (count, items) in LONG {
         row(rt, rt, "batch threads", Shape::Alike, count, items)?;
+        row(rt, rt, "batch threads scans", Shape::Scans, count, items)?;
+        row(rt, rt, "batch threads sums", Shape::Sums, count, items)?;
     }
     for count in [2, 64] {
         row(rt, &Sequential, "chain", Shape::Chain, count, 2)?;

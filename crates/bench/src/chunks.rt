@@ -1,5 +1,6 @@
 //! The rows of kernels in chunks: each kernel into fresh memory and over a vector that was kept, and each test of an index, in one
-//! thread and by a runtime with threads. The ways take turns, and of each the least time counts.
+//! thread and by a runtime with threads, whose processors were counted. The ways take turns of a few runs, and of each the least time
+//! counts.
 
 use crate::inputs::Inputs;
 use crate::runs::Failure;
@@ -13,15 +14,17 @@ use scan_kernels::{
 use segment_desc::{LIMIT, Segd};
 use std::alloc::Global;
 use std::rt::Clock;
-use std::thread::Threads;
 use std::time::Instant;
 use std::{io, mem};
 
 /// How many items the vectors have.
 const SIZES: [u32; 6] = [65_536, 131_072, 262_144, 524_288, 1_000_000, 16_000_000];
 
-/// How many times each way is timed.
-const REPEATS: u32 = 30;
+/// How many turns each way has.
+const TURNS: u32 = 5;
+
+/// How many runs a turn has.
+const IN_A_ROW: u32 = 6;
 
 /// A kernel over one of the inputs, or a test of an index.
 #[derive(Clone, Copy)]
@@ -327,26 +330,45 @@ fn time(
     Ok(u32::try_from(start.elapsed(rt)?.as_nanos()).unwrap_or(u32::MAX))
 }
 
-/// The least time of one run in one thread and in threads, in nanoseconds.
-fn least<R: Alloc<A = Global> + Clock + Threads + Execution<Shared = R> + Sync>(
+/// The least time of a few runs, one behind the other, in nanoseconds: threads that start behind a run in one thread begin later, since
+/// the system has let the other processors rest.
+fn least_in_a_row(
+    rt: &impl Clock,
+    execution: &impl Execution,
+    row: Row,
+    inputs: &Inputs,
+    fresh: bool,
+    made: &mut Vec<i64>,
+) -> io::Result<u32> {
+    let mut least = u32::MAX;
+    for _repeat in 0..IN_A_ROW {
+        least = least.min(time(rt, execution, row, inputs, fresh, made)?);
+    }
+    Ok(least)
+}
+
+/// The least time of one run in one thread and in threads, in nanoseconds. They take turns.
+fn least<R: Alloc<A = Global> + Clock>(
     rt: &R,
+    threads: &impl Execution,
     row: Row,
     inputs: &Inputs,
     fresh: bool,
 ) -> io::Result<(u32, u32)> {
     let mut made = Vec::new(rt.alloc());
     let mut least = (u32::MAX, u32::MAX);
-    for _repeat in 0..REPEATS {
-        let alone = time(rt, &Sequential, row, inputs, fresh, &mut made)?;
-        let threads = time(rt, rt, row, inputs, fresh, &mut made)?;
-        least = (least.0.min(alone), least.1.min(threads));
+    for _turn in 0..TURNS {
+        let alone = least_in_a_row(rt, &Sequential, row, inputs, fresh, &mut made)?;
+        let together = least_in_a_row(rt, threads, row, inputs, fresh, &mut made)?;
+        least = (least.0.min(alone), least.1.min(together));
     }
     Ok(least)
 }
 
-/// Prints for each kernel, number of items and kind of memory the nanoseconds of a run in one thread, and in threads.
-pub fn rows<R: Alloc<A = Global> + Clock + Print + Threads + Execution<Shared = R> + Sync>(
+/// Prints for each kernel, number of items and kind of memory the nanoseconds of a run in one thread, and by a policy with threads.
+pub fn rows<R: Alloc<A = Global> + Clock + Print>(
     rt: &R,
+    policy: &impl Execution,
 ) -> io::Result<()> {
     for size in SIZES {
         let inputs = Inputs::new(rt.alloc(), size)?;
@@ -355,7 +377,7 @@ pub fn rows<R: Alloc<A = Global> + Clock + Print + Threads + Execution<Shared = 
                 let Some(memory) = row.memory(fresh) else {
                     continue;
                 };
-                let (alone, threads) = least(rt, *row, &inputs, fresh)?;
+                let (alone, threads) = least(rt, policy, *row, &inputs, fresh)?;
                 let name = row.name();
                 println!(rt; "chunks\t{name}/{memory}/{size}\tone thread\t{alone}")?;
                 println!(rt; "chunks\t{name}/{memory}/{size}\tthreads\t{threads}")?;

@@ -27,7 +27,7 @@ mod timing;
 
 use case::{CASES, Case};
 use inputs::Inputs;
-use scan_kernels::Execution;
+use scan_kernels::{Counted, Execution};
 use std::alloc::Global;
 use std::process::ExitCode;
 use std::rt::Clock;
@@ -110,7 +110,10 @@ fn main(rt: HostRuntime) -> io::Result<ExitCode> {
             batch::rows(&rt)?;
         }
         Asked::Blocks => blocks::rows(&rt)?,
-        Asked::Chunks => chunks::rows(&rt)?,
+        Asked::Chunks => {
+            let counted = Counted::new(rt);
+            chunks::rows(counted.runtime(), &counted)?;
+        }
         Asked::Over => over::rows(&rt)?,
         Asked::Usage => println!(rt; "{USAGE}")?,
         Asked::Unknown => return refuse(&rt),

@@ -4,7 +4,8 @@ ghost use Rattle.std.specs.Prelude.{◌≡◌, ◌↔◌, length, sum, replicate
 ghost use Rattle.scan_kernels.specs.Indices.{HoldsEachPlaceOnce, IsPlaceOf, LieWithin, PermuteSegments};
 
 use scan_kernels::index_tests::{
-    lie_within_by_chunks, permutation_test_size, permutes_by_chunks, places_test_size,
+    lie_within_by_chunks, permutation_test_size, permutations_test_size, permutes_by_chunks,
+    places_test_size,
 };
 use scan_kernels::{Execution, Meter, are_places, is_place, place_of};
 use segment_desc::{OutOfMemory, Segd};
@@ -105,8 +106,9 @@ pub fn is_permutation_by(
     requires { sum segments.now ≡ length index.now }
     ensures { IfOk result (λ b. IsTrue b ↔ PermuteSegments segments.now index.now) }
 {
-    match permutation_test_size(execution, meter, index.len()) {
-        Some(size) => Ok(permutes_by_chunks(execution, alloc, index, segments.lengths(), size)?),
+    let lengths = segments.lengths();
+    match permutations_test_size(execution, meter, index.len(), lengths) {
+        Some(size) => Ok(permutes_by_chunks(execution, alloc, index, lengths, size)?),
         None => is_permutation(alloc, index, segments),
     }
 }

@@ -1,12 +1,13 @@
 -- A scan of segments, cut at a place of a segment: `scan-run` (how it goes on within the segment), `scan-item` (the item there).
 use Rattle.std.proofs.Common.{◌≡◌, ℕ, zero, suc, ◌+◌, ◌-◌, ◌*◌, ◌<◌, ◌≤◌, List, [], ◌∷◌, ◌++◌, length, take, drop, Some, refl, sym, ap, ◌∙◌, get_or, sum, slice_get, arith, ⊎_elim, add-one, set, subst}
 use Rattle.std.proofs.lemmas.Bool.{cases_lt}
+use Rattle.std.proofs.lemmas.Nat.{mul-le}
 use native.Mathlib.Nat.{suc-mul}
 use Rattle.std.specs.List.{fold}
 use Rattle.std.proofs.lemmas.List.{take-append-drop, drop_more, drop-drop, drop-take, take-take, take_all, append-nil, take-append-le, drop-append-le, length-take-le, length-drop, get_or-set_same, get_or-set_other}
 use Rattle.std.proofs.Math.Seq.{drop-append-add, drop-append_seam, take-add, take-append_seam}
 use Rattle.std.proofs.lemmas.List.Sums.{sum_by-take-drop, fold-append}
-use Rattle.scan_kernels.specs.Edges.{LiesIn}
+use Rattle.scan_kernels.specs.Edges.{FitsScan, LiesIn}
 use Rattle.scan_kernels.specs.Segmented.{scanned, segmented_scan}
 use Rattle.scan_kernels.proofs.CutLists.{segmented_scan-lengths-append}
 use Rattle.scan_kernels.proofs.NextSegment.{segment_within}
@@ -17,6 +18,11 @@ use Rattle.scan_kernels.proofs.Scanned.{scanned-append, length-scanned}
 pub segment_within_list : (ls : List ℕ) (number begin place : ℕ) → begin ≡ sum (take number ls) → begin ≤ place → place < sum ls → number < length ls
 segment_within_list ls number begin place e h within =
     ⊎_elim (λ lt. lt) (λ ge. let all = ap sum (take_all number ls ge) in absurd (omega arith)) (cases_lt number (length ls))
+
+-- a chunk that begins behind a place is not the first
+pub later_chunk : (b k size : ℕ) → b < k * size → 0 < k
+later_chunk b zero size h = absurd (omega arith)
+later_chunk b (suc k) size h = omega arith
 
 module _ {X : Type 0} where
   -- items of a segment, from a place in it on
@@ -53,6 +59,14 @@ module _ {X : Type 0} (op : X → X → X) where
       ∙ ap (drop r) (scanned-append op a front (drop r ys))
       ∙ ap (λ n. drop n (scanned op a front ++ later)) (sym long)
       ∙ drop-append_seam (scanned op a front) later
+
+  -- a part of a scan goes on from what the items before it come to
+  pub scanned-part : (a : X) (start r : ℕ) (xs : List X) → start + r ≤ length xs
+      → scanned op (fold op a (take start xs)) (take r (drop start xs)) ≡ take r (drop start (scanned op a xs))
+  scanned-part a start r xs h =
+      let first = fold op a (take start xs) in
+      sym (take-scanned first r (drop start xs) (omega (arith, length-drop start xs)))
+      ∙ ap (take r) (sym (drop-scanned a start xs (omega arith)))
 
   scanned_one : (a : X) (ys : List X) → length ys ≡ 1 → scanned op a ys ≡ a ∷ []
   scanned_one a [] h = absurd (omega arith)
@@ -137,6 +151,21 @@ module _ {X : Type 0} (op : X → X → X) (u : X) where
   -- a scan of segments that have all the items has as many
   pub scan_long : (ls : List ℕ) (xs : List X) → sum ls ≡ length xs → length (segmented_scan op u ls xs) ≡ length xs
   scan_long ls xs total = length-segmented_scan op u ls xs (omega arith) ∙ total
+
+  -- and so has the scan of all items
+  pub prefixes_long : (xs : List X) → length (scanned op u xs) ≡ length xs
+  prefixes_long xs = length-scanned op u xs
+
+  -- where one chunk has all the items, nothing is carried
+  pub fits_in_one_chunk : (ls : List ℕ) (xs carries : List X) (size : ℕ) → sum ls ≡ length xs → length xs < size → FitsScan op u ls xs carries size
+  fits_in_one_chunk ls xs carries size total h =
+      let long = scan_long ls xs total in (
+        omega arith,
+        total,
+        record {
+          item = λ k later within. let far = mul-le 1 size k size later (omega arith) in absurd (omega arith);
+        },
+      )
 
   -- the scan of one segment that has all the items
   pub scan_of_one : (xs : List X) → segmented_scan op u (length xs ∷ []) xs ≡ scanned op u xs

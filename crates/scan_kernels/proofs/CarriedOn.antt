@@ -95,7 +95,7 @@ module _ {X : Type 0} (op : X → X → X) (u : X) (P : X → Type 0) (P-unit : 
 
       pub carries_are : ((k : ℕ) → k * size < length xs → k < length es + 1) → AreCarries size (segmented_scan op u ls xs) new
       carries_are within = record {
-        item = λ k h.
+        item = λ k later h.
             let many = scan_long op u ls xs total in
             let there = within k (omega arith) in
             slice_get-get_or new k u (omega arith) ∙ sym (carried_into k there (omega arith));

@@ -1,6 +1,6 @@
 -- Two parts of a list, one behind the other, each written by itself: `written_both`, and of lists over vectors of their own
 -- `first_long`, `others_long`, `made_both`.
-use Rattle.std.proofs.Common.{arith, ◌≡◌, ◌∙◌, ℕ, ◌+◌, ◌-◌, ◌<◌, ◌≤◌, List, ◌++◌, Vec, Global, length, take, drop, sym, ap, slice_index_or, vec_capacity, length-append, inl, inr}
+use Rattle.std.proofs.Common.{arith, ◌≡◌, ◌∙◌, ℕ, ◌+◌, ◌-◌, List, ◌++◌, Vec, Global, length, take, drop, sym, ap, slice_index_or, vec_capacity, length-append, inl, inr}
 use Rattle.std.proofs.lemmas.List.{get_or_append_left, get_or-append_right, drop-drop}
 use Rattle.std.proofs.lemmas.Bool.{cases_lt}
 use Rattle.std.proofs.Math.Seq.{take-add}

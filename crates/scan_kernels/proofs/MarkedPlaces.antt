@@ -1,5 +1,5 @@
 -- The places that an index holds, as marks: `sorted_more`, `marked_more`, `block_marked` (a part that is marked, one more
--- index, place and block), `part_marked` (all of it); `marks_many`, `marks_is`, `marks_lengths` (segments); `marks_all` (all marks are set where each segment is a
+-- index, place and block), `part_marked` (all of it); `marks_many`, `marks_is`, `marks_lengths`, `length-segmented_marks` (segments); `marks_all` (all marks are set where each segment is a
 -- permutation).
 use Rattle.std.proofs.Common.{◌≡◌, ◌↔◌, ℕ, zero, suc, ◌+◌, ◌<◌, ◌≤◌, List, [], ◌∷◌, ◌++◌, length, take, drop, map, refl, sym, ap, ◌∙◌, get_or, sum, ℤ, pos, Bool, true, false, cond, count_by, set, arith}
 use Rattle.std.specs.Prelude.{nat_eq, nat_lt, ◌&&◌, ◌||◌}
@@ -15,6 +15,8 @@ use Rattle.segment_desc.specs.Cut.{cut}
 use Rattle.scan_kernels.specs.Indices.{HoldsEachPlaceOnce, PermuteSegments, times_held}
 use Rattle.scan_kernels.specs.Marked.{all_set, marks, segmented_marks}
 use Rattle.scan_kernels.proofs.Counting.{held_once}
+use Rattle.scan_kernels.proofs.SegmentLists.{joined_map}
+use Rattle.scan_kernels.proofs.SegmentRuns.{length-joined}
 use Rattle.scan_kernels.proofs.Segments.{length_cut, segment_at}
 
 pub length-marks : (index : List ℤ) → length (marks index) ≡ length index
@@ -144,6 +146,13 @@ marks_lengths (l ∷ ls) index total =
     let here : length (marks (take l index)) ≡ l = length-marks (take l index) ∙ length-take-le l index (omega arith) in
     let rest : sum ls ≡ length (drop l index) = omega (arith, length-drop l index) in
     ap (λ k. k ∷ ls) (sym here) ∙ ap (λ ks. length (marks (take l index)) ∷ ks) (marks_lengths ls (drop l index) rest)
+
+pub length-segmented_marks : (ls : List ℕ) (index : List ℤ) → sum ls ≡ length index → length (segmented_marks ls index) ≡ length index
+length-segmented_marks ls index total =
+    ap length (sym (joined_map marks (cut ls index)))
+    ∙ length-joined (map marks (cut ls index))
+    ∙ ap sum (sym (marks_lengths ls index total))
+    ∙ total
 
 module _ (ls : List ℕ) (index : List ℤ) where
   pub marks_many : length (map marks (cut ls index)) ≡ length ls

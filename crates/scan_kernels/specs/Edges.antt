@@ -35,9 +35,9 @@ abbrev pub CarriesOn : {X : Type 0} → (X → X → X) → List Edge → List X
 CarriesOn {X} op edges old new = (k : ℕ) (e : Edge) (d : X) → k < length edges
     → slice_index_or new (k + 1) d ≡ (join_pairs op (false, slice_index_or new k d) ((slice_index_or edges k e).began, slice_index_or old (k + 1) d)).1
 
--- item k is what the scan carries into chunk k: the item of the scan at the chunk's first place
+-- behind the first chunk, item k is what the scan carries into chunk k: the item of the scan at the chunk's first place
 pub record AreCarries {X : Type 0} (size : ℕ) (scan carries : List X) : Type 0 where
-  pub item : (k : ℕ) → k * size < length scan → slice_get carries k ≡ slice_get scan (k * size)
+  pub item : (k : ℕ) → 0 < k → k * size < length scan → slice_get carries k ≡ slice_get scan (k * size)
 
 -- a scan of segments that have all the items, with what it carries into each chunk
 abbrev pub FitsScan : {X : Type 0} → (X → X → X) → X → List ℕ → List X → List X → ℕ → Type 0

@@ -14,7 +14,7 @@ use Rattle.scan_kernels.specs.Indices.{HoldsEachPlaceOnce, IsPlaceOf, LieWithin,
 use Rattle.scan_kernels.specs.Marked.{chunks_set, each_within, segmented_marks}
 use Rattle.scan_kernels.specs.Packed.{each_number, number_set, numbers_set, packed}
 use Rattle.scan_kernels.specs.Permuted.{permuted, segmented_permute}
-use Rattle.scan_kernels.specs.Segmented.{segmented_reduce, segmented_scan}
+use Rattle.scan_kernels.specs.Segmented.{reduced, scanned, segmented_reduce, segmented_scan}
 use Rattle.scan_kernels.specs.declared.rows.IntRow.{IntRow}
 use Rattle.scan_kernels.specs.declared.rows.IntRow.TheVariants as ints
 use Rattle.scan_kernels.specs.declared.rows.BoolRow.{BoolRow}
@@ -29,8 +29,10 @@ ints_of (ints.Numbers l) = map as_number l.items.now
 ints_of (ints.Permuted l) = permuted l.index.now l.items.now
 ints_of (ints.Selected l) = selected l.flags.now l.set.now l.unset.now
 ints_of (ints.Reduced l) = segmented_reduce (combine_z l.op) (unit_z l.op) l.lengths.now l.items.now
+ints_of (ints.ReducedParts l) = map (λ p. reduced (combine_z l.op) (unit_z l.op) p.now) l.parts.now
 ints_of (ints.CarriedOver l) = map (carried_over (combine_z l.op) (unit_z l.op) l.items.now) l.edges.now
 ints_of (ints.Scanned l) = segmented_scan (combine_z l.op) (unit_z l.op) l.lengths.now l.items.now
+ints_of (ints.Prefixes l) = scanned (combine_z l.op) (unit_z l.op) l.items.now
 ints_of (ints.Repeated l) = replicate l.count l.item
 ints_of (ints.Rising l) = indexed l.start l.stride l.count
 ints_of (ints.Distributed l) = distributed l.lengths.now l.values.now
@@ -39,6 +41,7 @@ ints_of (ints.GatheredSegments l) = segmented_gather l.source.now l.items.now l.
 ints_of (ints.PermutedSegments l) = segmented_permute l.lengths.now l.index.now l.items.now
 ints_of (ints.SetNumbers l) = numbers_set l.lengths.now l.flags.now
 ints_of (ints.Packed l) = packed l.flags.now l.items.now
+ints_of (ints.PackedWhole l) = packed l.flags.now l.items.now
 
 -- their operands are of one length, and allowed; segments have all the items
 abbrev pub FitInts : IntRow → Type 0
@@ -49,8 +52,10 @@ FitInts (ints.Numbers l) = Unit {0}
 FitInts (ints.Permuted l) = (length l.index.now ≡ length l.items.now) × HoldsEachPlaceOnce l.index.now
 FitInts (ints.Selected l) = (length l.flags.now ≡ length l.set.now) × (length l.flags.now ≡ length l.unset.now)
 FitInts (ints.Reduced l) = sum l.lengths.now ≡ length l.items.now
+FitInts (ints.ReducedParts l) = Unit {0}
 FitInts (ints.CarriedOver l) = All (FitsEdge (length l.items.now)) l.edges.now
 FitInts (ints.Scanned l) = FitsScan (combine_z l.op) (unit_z l.op) l.lengths.now l.items.now l.carries.now l.size
+FitInts (ints.Prefixes l) = Unit {0}
 FitInts (ints.Repeated l) = Unit {0}
 FitInts (ints.Rising l) = l.count ≤ most
 FitInts (ints.Distributed l) = (length l.lengths.now ≡ length l.values.now) × (l.total ≡ sum l.lengths.now)
@@ -59,6 +64,7 @@ FitInts (ints.GatheredSegments l) = (sum l.source.now ≡ length l.items.now) ×
 FitInts (ints.PermutedSegments l) = (length l.index.now ≡ length l.items.now) × (sum l.lengths.now ≡ length l.index.now) × PermuteSegments l.lengths.now l.index.now
 FitInts (ints.SetNumbers l) = sum l.lengths.now ≡ length l.flags.now
 FitInts (ints.Packed l) = (length l.flags.now ≡ length l.items.now) × (sum l.lengths.now ≡ length l.flags.now) × (l.numbers.now ≡ each_number l.lengths.now l.flags.now) × (l.total ≡ number_set l.flags.now)
+FitInts (ints.PackedWhole l) = (length l.flags.now ≡ length l.items.now) × (l.total ≡ number_set l.flags.now)
 
 -- the truth values
 abbrev pub bools_of : BoolRow → List Bool
@@ -70,14 +76,18 @@ bools_of (bools.Permuted l) = permuted l.index.now l.items.now
 bools_of (bools.Truths l) = map is_true l.items.now
 bools_of (bools.Selected l) = selected l.flags.now l.set.now l.unset.now
 bools_of (bools.Reduced l) = segmented_reduce (combine_b l.op) (unit_b l.op) l.lengths.now l.items.now
+bools_of (bools.ReducedParts l) = map (λ p. reduced (combine_b l.op) (unit_b l.op) p.now) l.parts.now
 bools_of (bools.CarriedOver l) = map (carried_over (combine_b l.op) (unit_b l.op) l.items.now) l.edges.now
 bools_of (bools.Scanned l) = segmented_scan (combine_b l.op) (unit_b l.op) l.lengths.now l.items.now
+bools_of (bools.Prefixes l) = scanned (combine_b l.op) (unit_b l.op) l.items.now
 bools_of (bools.Repeated l) = replicate l.count l.item
 bools_of (bools.Distributed l) = distributed l.lengths.now l.values.now
 bools_of (bools.GatheredSegments l) = segmented_gather l.source.now l.items.now l.by.now l.index.now
 bools_of (bools.PermutedSegments l) = segmented_permute l.lengths.now l.index.now l.items.now
 bools_of (bools.Packed l) = packed l.flags.now l.items.now
+bools_of (bools.PackedWhole l) = packed l.flags.now l.items.now
 bools_of (bools.Marked l) = segmented_marks l.lengths.now l.index.now
+bools_of (bools.ChunksMarked l) = chunks_set l.count l.size (segmented_marks l.lengths.now l.index.now)
 bools_of (bools.ChunksWithin l) = chunks_set l.count l.size (each_within l.source.now l.by.now l.index.now)
 
 -- their operands are of one length; segments have all the items
@@ -90,12 +100,16 @@ FitBools (bools.Permuted l) = (length l.index.now ≡ length l.items.now) × Hol
 FitBools (bools.Truths l) = Unit {0}
 FitBools (bools.Selected l) = (length l.flags.now ≡ length l.set.now) × (length l.flags.now ≡ length l.unset.now)
 FitBools (bools.Reduced l) = sum l.lengths.now ≡ length l.items.now
+FitBools (bools.ReducedParts l) = Unit {0}
 FitBools (bools.CarriedOver l) = All (FitsEdge (length l.items.now)) l.edges.now
 FitBools (bools.Scanned l) = FitsScan (combine_b l.op) (unit_b l.op) l.lengths.now l.items.now l.carries.now l.size
+FitBools (bools.Prefixes l) = Unit {0}
 FitBools (bools.Repeated l) = Unit {0}
 FitBools (bools.Distributed l) = (length l.lengths.now ≡ length l.values.now) × (l.total ≡ sum l.lengths.now)
 FitBools (bools.GatheredSegments l) = (sum l.source.now ≡ length l.items.now) × (sum l.by.now ≡ length l.index.now) × (length l.source.now ≡ length l.by.now) × LieWithin l.source.now l.by.now l.index.now
 FitBools (bools.PermutedSegments l) = (length l.index.now ≡ length l.items.now) × (sum l.lengths.now ≡ length l.index.now) × PermuteSegments l.lengths.now l.index.now
 FitBools (bools.Packed l) = (length l.flags.now ≡ length l.items.now) × (sum l.lengths.now ≡ length l.flags.now) × (l.numbers.now ≡ each_number l.lengths.now l.flags.now) × (l.total ≡ number_set l.flags.now)
+FitBools (bools.PackedWhole l) = (length l.flags.now ≡ length l.items.now) × (l.total ≡ number_set l.flags.now)
 FitBools (bools.Marked l) = sum l.lengths.now ≡ length l.index.now
+FitBools (bools.ChunksMarked l) = (sum l.lengths.now ≡ length l.index.now) × (0 < l.size) × ((k : ℕ) → k < l.count → k * l.size < length l.index.now)
 FitBools (bools.ChunksWithin l) = (length l.source.now ≡ length l.by.now) × (sum l.by.now ≡ length l.index.now) × (0 < l.size) × ((k : ℕ) → k < l.count → k * l.size < length l.index.now)

@@ -5,6 +5,7 @@ ghost use Rattle.segment_desc.specs.Appended.{IsExact};
 ghost use Rattle.scan_kernels.specs.Lists.{FitBools, FitInts, bools_of, ints_of};
 ghost use Rattle.scan_kernels.specs.Metering.{HeedsChunk, default_chunk};
 
+use crate::chunks_marked::are_short;
 use crate::execution::Execution;
 use crate::meter::{DEFAULT_CHUNK, Meter};
 use crate::rows::{BoolRow, IntRow, count_bools, count_ints};
@@ -218,6 +219,23 @@ pub fn permutation_test_size(
     ensures few { IfSome result (λ size. count ≤ MOST_CHUNKS * size) }
 {
     few_size(execution, meter, count, count >= PERMUTATION_TESTS_PAY)
+}
+
+/// The size of the chunks in which the indices of segments are tested for permutations, if they go by chunks: where all are short, such
+/// an index is read from one end to the other.
+#[inline(always)]
+pub fn permutations_test_size(
+    execution: &impl Execution,
+    meter: &Meter,
+    count: usize,
+    lengths: &[usize],
+) -> Option<usize>
+    ensures size { IfSome result (λ size. 0 < size) }
+    ensures heeded { HeedsChunk meter.now count result }
+    ensures few { IfSome result (λ size. count ≤ MOST_CHUNKS * size) }
+{
+    let pays = count >= PERMUTATION_TESTS_PAY || count >= PLACES_TESTS_PAY && are_short(lengths);
+    few_size(execution, meter, count, pays)
 }
 
 /// From how many items on it repays to start threads that read an index from one end to the other: found by `bench chunks` on four

@@ -37,6 +37,35 @@ pub fn packed<T: Copy + Send + Sync>(
     Ok(made)
 }
 
+/// The items whose flag is set, where it is known how many flags are set.
+#[derive(Clone, Copy)]
+pub struct PackedWhole<'a, T> {
+    pub items: &'a [T],
+    pub flags: &'a [bool],
+    /// How many flags are set.
+    pub total: usize,
+}
+
+impl<T: Copy> PackedWhole<'_, T> {
+    /// How many items there are.
+    pub fn count(self) -> usize
+        requires same_length { length self.flags.now ≡ length self.items.now }
+        requires total { self.total ≡ number_set self.flags.now }
+        ensures { result ≡ length (packed self.entry.flags.now self.entry.items.now) }
+    {
+        self.total
+    }
+
+    /// Writes the items from a place on, as many as the part has.
+    pub fn write(self, start: usize, part: &mut [T])
+        requires same_length { length self.flags.now ≡ length self.items.now }
+        requires within { start + length part.old ≤ length (packed self.flags.now self.items.now) }
+        ensures { part.new ≡ take (length part.old) (drop start (packed self.entry.flags.now self.entry.items.now)) }
+    {
+        write_packed(self.items, self.flags, start, part);
+    }
+}
+
 /// Writes the items whose flag is set behind so many of them, as many as the part has.
 #[inline(always)]
 pub(crate) fn write_packed<T: Copy>(items: &[T], flags: &[bool], behind: usize, part: &mut [T])

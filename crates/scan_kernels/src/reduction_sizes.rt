@@ -3,7 +3,7 @@
 ghost use Rattle.std.specs.Prelude.{◌<◌, IfSome};
 ghost use Rattle.scan_kernels.specs.Metering.{HeedsChunk};
 
-use crate::chunks::{chunk_size, size_of_few};
+use crate::chunks::{chunk_size, joined_size, size_of_few};
 use crate::execution::Execution;
 use crate::meter::{DEFAULT_CHUNK, Meter};
 
@@ -59,4 +59,17 @@ pub(crate) fn items_size(execution: &impl Execution, meter: &Meter, count: usize
     ensures heeded { HeedsChunk meter.now count result }
 {
     chunk_size(execution, meter, count, count >= REDUCTIONS_PAY)
+}
+
+/// How many parts make a chunk of a reduction of each part, where they have so many items together, if it goes by chunks.
+pub(crate) fn parts_size(
+    execution: &impl Execution,
+    meter: &Meter,
+    parts: usize,
+    items: usize,
+) -> Option<usize>
+    ensures size { IfSome result (λ size. 0 < size) }
+    ensures heeded { HeedsChunk meter.now items result }
+{
+    joined_size(execution, meter, parts, items, items >= REDUCTIONS_PAY)
 }

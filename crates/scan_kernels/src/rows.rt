@@ -6,6 +6,7 @@ ghost use Rattle.scan_kernels.specs.Lists.{FitBools, FitInts, bools_of, ints_of}
 
 use crate::carries::CarriedOver;
 use crate::choices::{by_b1, by_b2, by_comparison, by_name, by_z1, by_z2};
+use crate::chunks_marked::ChunksMarked;
 use crate::chunks_within::ChunksWithin;
 use crate::fills::{Repeated, Rising};
 use crate::fills_by_segments::{Distributed, RisingSegments};
@@ -15,8 +16,11 @@ use crate::lists::{
 use crate::marks::Marked;
 use crate::moves::{Gathered, Permuted};
 use crate::moves_by_segments::{GatheredSegments, PermutedSegments};
+use crate::packs::PackedWhole;
 use crate::packs_by_chunks::Packed;
 use crate::placewise::{Placewise, write_from};
+use crate::prefixes::{Prefixes, write_prefix_bools, write_prefix_ints};
+use crate::reduced_parts::ReducedParts;
 use crate::reductions::{
     ReducedBools, ReducedInts, count_reduced_bools, count_reduced_ints, write_reduced_bools,
     write_reduced_ints,
@@ -36,8 +40,10 @@ pub enum IntRow<'a> {
     Permuted(Permuted<'a, i64>),
     Selected(Selected<'a, i64>),
     Reduced(ReducedInts<'a>),
+    ReducedParts(ReducedParts<'a, ScanZ, i64>),
     CarriedOver(CarriedOver<'a, ScanZ, i64>),
     Scanned(Scanned<'a, ScanZ, i64>),
+    Prefixes(Prefixes<'a, ScanZ, i64>),
     Repeated(Repeated<i64>),
     Rising(Rising),
     Distributed(Distributed<'a, i64>),
@@ -46,10 +52,11 @@ pub enum IntRow<'a> {
     PermutedSegments(PermutedSegments<'a, i64>),
     SetNumbers(SetNumbers<'a>),
     Packed(Packed<'a, i64>),
+    PackedWhole(PackedWhole<'a, i64>),
 }
 
 /// How many integers there are.
-#[tactic(auto, using(crate::proofs::Placed::paired_long, crate::proofs::Placed::chosen_long, crate::proofs::Carried::scan_long))]
+#[tactic(auto, using(crate::proofs::Placed::paired_long, crate::proofs::Placed::chosen_long, crate::proofs::Carried::scan_long, crate::proofs::Carried::prefixes_long))]
 pub fn count_ints(row: IntRow<'_>) -> usize
     requires { FitInts row }
     ensures { result ≡ length (ints_of row.entry) }
@@ -62,8 +69,10 @@ pub fn count_ints(row: IntRow<'_>) -> usize
         IntRow::Permuted(list) => list.count(),
         IntRow::Selected(list) => list.count(),
         IntRow::Reduced(list) => count_reduced_ints(list),
+        IntRow::ReducedParts(list) => list.count(),
         IntRow::CarriedOver(list) => list.count(),
         IntRow::Scanned(list) => list.count(),
+        IntRow::Prefixes(list) => list.count(),
         IntRow::Repeated(list) => list.count(),
         IntRow::Rising(list) => list.count(),
         IntRow::Distributed(list) => list.count(),
@@ -72,11 +81,12 @@ pub fn count_ints(row: IntRow<'_>) -> usize
         IntRow::PermutedSegments(list) => list.count(),
         IntRow::SetNumbers(list) => count_set_numbers(list),
         IntRow::Packed(list) => list.count(),
+        IntRow::PackedWhole(list) => list.count(),
     }
 }
 
 /// Writes the integers from a place on, as many as the part has.
-#[tactic(auto, using(crate::proofs::Carried::scan_long))]
+#[tactic(auto, using(crate::proofs::Carried::scan_long, crate::proofs::Carried::prefixes_long))]
 pub fn write_ints(row: IntRow<'_>, start: usize, part: &mut [i64])
     requires fits { FitInts row }
     requires within { start + length part.old ≤ length (ints_of row) }
@@ -91,8 +101,10 @@ pub fn write_ints(row: IntRow<'_>, start: usize, part: &mut [i64])
         IntRow::Permuted(list) => list.write(start, part),
         IntRow::Selected(list) => write_from(&list, start, part),
         IntRow::Reduced(list) => write_reduced_ints(list, start, part),
+        IntRow::ReducedParts(list) => write_from(&list, start, part),
         IntRow::CarriedOver(list) => write_from(&list, start, part),
         IntRow::Scanned(list) => write_scanned_ints(list, start, part),
+        IntRow::Prefixes(list) => write_prefix_ints(list, start, part),
         IntRow::Repeated(list) => write_from(&list, start, part),
         IntRow::Rising(list) => write_from(&list, start, part),
         IntRow::Distributed(list) => write_segments(&list, start, part),
@@ -101,6 +113,7 @@ pub fn write_ints(row: IntRow<'_>, start: usize, part: &mut [i64])
         IntRow::PermutedSegments(list) => write_segments(&list, start, part),
         IntRow::SetNumbers(list) => write_set_numbers(list, start, part),
         IntRow::Packed(list) => write_segments(&list, start, part),
+        IntRow::PackedWhole(list) => list.write(start, part),
     }
 }
 
@@ -137,19 +150,23 @@ pub enum BoolRow<'a> {
     Truths(Truths<'a>),
     Selected(Selected<'a, bool>),
     Reduced(ReducedBools<'a>),
+    ReducedParts(ReducedParts<'a, ScanB, bool>),
     CarriedOver(CarriedOver<'a, ScanB, bool>),
     Scanned(Scanned<'a, ScanB, bool>),
+    Prefixes(Prefixes<'a, ScanB, bool>),
     Repeated(Repeated<bool>),
     Distributed(Distributed<'a, bool>),
     GatheredSegments(GatheredSegments<'a, bool>),
     PermutedSegments(PermutedSegments<'a, bool>),
     Packed(Packed<'a, bool>),
+    PackedWhole(PackedWhole<'a, bool>),
     Marked(Marked<'a>),
+    ChunksMarked(ChunksMarked<'a>),
     ChunksWithin(ChunksWithin<'a>),
 }
 
 /// How many truth values there are.
-#[tactic(auto, using(crate::proofs::Placed::paired_long, crate::proofs::Placed::chosen_long, crate::proofs::Carried::scan_long))]
+#[tactic(auto, using(crate::proofs::Placed::paired_long, crate::proofs::Placed::chosen_long, crate::proofs::Carried::scan_long, crate::proofs::Carried::prefixes_long))]
 pub fn count_bools(row: BoolRow<'_>) -> usize
     requires { FitBools row }
     ensures { result ≡ length (bools_of row.entry) }
@@ -163,20 +180,24 @@ pub fn count_bools(row: BoolRow<'_>) -> usize
         BoolRow::Truths(list) => list.count(),
         BoolRow::Selected(list) => list.count(),
         BoolRow::Reduced(list) => count_reduced_bools(list),
+        BoolRow::ReducedParts(list) => list.count(),
         BoolRow::CarriedOver(list) => list.count(),
         BoolRow::Scanned(list) => list.count(),
+        BoolRow::Prefixes(list) => list.count(),
         BoolRow::Repeated(list) => list.count(),
         BoolRow::Distributed(list) => list.count(),
         BoolRow::GatheredSegments(list) => list.count(),
         BoolRow::PermutedSegments(list) => list.count(),
         BoolRow::Packed(list) => list.count(),
+        BoolRow::PackedWhole(list) => list.count(),
         BoolRow::Marked(list) => list.count(),
+        BoolRow::ChunksMarked(list) => list.count(),
         BoolRow::ChunksWithin(list) => list.count(),
     }
 }
 
 /// Writes the truth values from a place on, as many as the part has.
-#[tactic(auto, using(crate::proofs::Carried::scan_long))]
+#[tactic(auto, using(crate::proofs::Carried::scan_long, crate::proofs::Carried::prefixes_long))]
 pub fn write_bools(row: BoolRow<'_>, start: usize, part: &mut [bool])
     requires fits { FitBools row }
     requires within { start + length part.old ≤ length (bools_of row) }
@@ -192,14 +213,18 @@ pub fn write_bools(row: BoolRow<'_>, start: usize, part: &mut [bool])
         BoolRow::Truths(list) => write_from(&list, start, part),
         BoolRow::Selected(list) => write_from(&list, start, part),
         BoolRow::Reduced(list) => write_reduced_bools(list, start, part),
+        BoolRow::ReducedParts(list) => write_from(&list, start, part),
         BoolRow::CarriedOver(list) => write_from(&list, start, part),
         BoolRow::Scanned(list) => write_scanned_bools(list, start, part),
+        BoolRow::Prefixes(list) => write_prefix_bools(list, start, part),
         BoolRow::Repeated(list) => write_from(&list, start, part),
         BoolRow::Distributed(list) => write_segments(&list, start, part),
         BoolRow::GatheredSegments(list) => write_segments(&list, start, part),
         BoolRow::PermutedSegments(list) => write_segments(&list, start, part),
         BoolRow::Packed(list) => write_segments(&list, start, part),
+        BoolRow::PackedWhole(list) => list.write(start, part),
         BoolRow::Marked(list) => write_segments(&list, start, part),
+        BoolRow::ChunksMarked(list) => write_from(&list, start, part),
         BoolRow::ChunksWithin(list) => write_from(&list, start, part),
     }
 }

@@ -122,7 +122,7 @@ fn carry_at<O: Combine>(
 /// What the operation makes of the items behind a first one.
 #[inline(always)]
 #[tactic(auto, using(crate::proofs::Scanned::fold_push))]
-fn folded<O: Combine>(op: O, first: O::Item, items: &[O::Item]) -> O::Item
+pub(crate) fn folded<O: Combine>(op: O, first: O::Item, items: &[O::Item]) -> O::Item
     ensures { result ≡ fold (O.combined op) first items.now }
 {
     let mut so_far = first;
@@ -175,7 +175,12 @@ fn write_segments<O: Combine>(
 
 /// Writes the scan of a part's items, from a first one on.
 #[inline(always)]
-fn write_scanned<O: Combine>(op: O, first: O::Item, items: &[O::Item], part: &mut [O::Item])
+pub(crate) fn write_scanned<O: Combine>(
+    op: O,
+    first: O::Item,
+    items: &[O::Item],
+    part: &mut [O::Item],
+)
     requires { length items.now ≡ length part.old }
     ensures { part.new ≡ scanned (O.combined op) first items.now }
 {

@@ -73,8 +73,8 @@ fn write_each_number(flags: &[bool], lengths: &[usize], part: &mut [i64])
     }
 }
 
-// Sums of few bits go through more flags at a time.
-pub(crate) fn number_set(flags: &[bool]) -> usize
+/// How many flags are set. Sums of few bits go through more flags at a time.
+pub fn number_set(flags: &[bool]) -> usize
     ensures { result ≡ number_set flags.now }
 {
     let mut number = 0;

@@ -218,7 +218,7 @@ pub fn index_whole(
     Ok(made)
 }
 
-#[inline(always)]
+#[inline(never)]
 pub(crate) fn rising(
     alloc: impl Source<i64>,
     start: i64,

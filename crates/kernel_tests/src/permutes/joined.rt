@@ -6,8 +6,8 @@ ghost use Rattle.scan_kernels.specs.Indices.{HoldsEachPlaceOnce, IsPlaceOf, LieW
 use crate::cut::cut;
 use crate::joined_parts::{gives_bools, gives_ints};
 use permute_kernels::{
-    BackPermute, Gather, Pack, PackLengths, Permute, PermuteWhole, are_places, in_range,
-    is_permutation, is_whole_permutation,
+    BackPermute, Gather, Pack, PackLengths, PackSegments, Permute, PermuteWhole, are_places,
+    in_range, is_permutation, is_whole_permutation,
 };
 use scan_kernels::{Meter, run_joined};
 use segment_desc::Segd;
@@ -62,6 +62,15 @@ fn assert_places<T>(rt: &impl Abort, parts: &[(&[T], &[i64])])
 
 /// Asserts that each part has as many flags as items.
 fn assert_flags<T>(rt: &impl Abort, parts: &[(&[T], &[bool])])
+    ensures { All (λ p. length p.1.now ≡ length p.0.now) parts.now }
+{
+    for part in parts {
+        assert!(rt; part.1.len() == part.0.len());
+    }
+}
+
+/// Asserts that each part, which is cut into segments, has as many flags as items.
+fn assert_flags_of_segments<T>(rt: &impl Abort, parts: &[(&[T], &[bool], &Segd)])
     ensures { All (λ p. length p.1.now ≡ length p.0.now) parts.now }
 {
     for part in parts {
@@ -176,6 +185,28 @@ fn packs_each_part(rt: HostRuntime) {
     assert_flags(&rt, &parts);
     let wanted: [&[bool]; 2] = [&[false], &[true, true]];
     assert!(rt; gives_bools(&rt, rt.alloc(), Pack, &parts, &wanted));
+}
+
+#[test]
+fn packs_the_segments_of_each_part(rt: HostRuntime) {
+    let (first, empty) = (cut(&rt, rt.alloc(), &[3, 1]), cut(&rt, rt.alloc(), &[0, 0]));
+    let parts: [(&[i64], &[bool], &Segd); 2] = [
+        (&[5, 6, 7, 8], &[true, false, false, true], &first),
+        (&[], &[], &empty),
+    ];
+    assert_flags_of_segments(&rt, &parts);
+    assert!(rt; gives_ints(&rt, rt.alloc(), PackSegments, &parts, &[&[5, 8], &[]]));
+    let parts: [(&[bool], &[bool], &Segd); 2] = [
+        (&[], &[], &empty),
+        (
+            &[true, false, true, true],
+            &[false, true, true, false],
+            &first,
+        ),
+    ];
+    assert_flags_of_segments(&rt, &parts);
+    let wanted: [&[bool]; 2] = [&[], &[false, true]];
+    assert!(rt; gives_bools(&rt, rt.alloc(), PackSegments, &parts, &wanted));
 }
 
 #[test]

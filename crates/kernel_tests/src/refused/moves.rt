@@ -7,7 +7,7 @@ use permute_kernels::{
     is_permutation_by, is_whole_permutation, is_whole_permutation_by, pack_b, pack_z,
     packed_lengths, permute_b, permute_whole_b, permute_whole_z, permute_z,
 };
-use scan_kernels::{Meter, Sequential};
+use scan_kernels::{Meter, Sequential, index_whole};
 use std::alloc::{Alloc, Global};
 use std::process::Abort;
 
@@ -65,9 +65,25 @@ fn tests_of_permutations(rt: HostRuntime) {
     assert!(rt; !matches!(whole, Ok(true)) && !matches!(each, Ok(false)));
 }
 
-/// So does one by chunks.
+/// So does one by chunks, of a long segment.
 #[test]
 fn tests_of_permutations_by_chunks(rt: HostRuntime) {
+    let (alloc, mut meter) = (rt.alloc(), Meter::with_chunk(2));
+    let segments = cut(&rt, alloc, &[0, 5_000]);
+    let zeros = vec![in alloc; 0i64; 5_000].expect(&rt, "memory");
+    let falling = index_whole(&Sequential, alloc, &mut meter, 4_999, -1, 5_000);
+    let falling = falling.expect(&rt, "memory");
+    assert!(rt; segments.total() == falling.len());
+    begin(&rt);
+    let whole = is_whole_permutation_by(&Sequential, alloc, &meter, &zeros);
+    let each = is_permutation_by(&Sequential, alloc, &meter, &falling, &segments);
+    println!(rt; "end").expect(&rt, "output");
+    assert!(rt; !matches!(whole, Ok(true)) && !matches!(each, Ok(false)));
+}
+
+/// Of short segments it takes no memory.
+#[test]
+fn tests_of_short_permutations_by_chunks(rt: HostRuntime) {
     let (alloc, meter, segments) = (
         rt.alloc(),
         Meter::with_chunk(2),
@@ -78,7 +94,7 @@ fn tests_of_permutations_by_chunks(rt: HostRuntime) {
     let whole = is_whole_permutation_by(&Sequential, alloc, &meter, &[2, 0, 0]);
     let each = is_permutation_by(&Sequential, alloc, &meter, &[1, 0, 0], &segments);
     println!(rt; "end").expect(&rt, "output");
-    assert!(rt; !matches!(whole, Ok(true)) && !matches!(each, Ok(false)));
+    assert!(rt; whole == Ok(false) && each == Ok(true));
 }
 
 #[test]

@@ -5,8 +5,8 @@ ghost use Rattle.segment_desc.specs.Cut.{joined};
 ghost use Rattle.scan_kernels.specs.Packed.{packed};
 
 use scan_kernels::{
-    BoolKernel, BoolRow, IntKernel, IntRow, JoinedKernel, Kernel, PACK_BLOCK, Shelf, packed,
-    run_parts,
+    BoolKernel, BoolRow, IntKernel, IntRow, JoinedKernel, Kernel, PACK_BLOCK, PackedWhole, Shelf,
+    number_set, packed, run_parts,
 };
 use segment_desc::Segd;
 use std::alloc::AllocError;
@@ -44,7 +44,12 @@ impl<'a> JoinedKernel<(&'a [i64], &'a [bool])> for Pack {
 
 impl<'a> IntKernel<'a, (&'a [i64], &'a [bool])> for Pack {
     fn row(self, part: &(&'a [i64], &'a [bool])) -> Option<IntRow<'a>> {
-        None
+        let (items, flags) = *part;
+        Some(IntRow::PackedWhole(PackedWhole {
+            items,
+            flags,
+            total: number_set(flags),
+        }))
     }
 }
 
@@ -77,7 +82,12 @@ impl<'a> JoinedKernel<(&'a [bool], &'a [bool])> for Pack {
 
 impl<'a> BoolKernel<'a, (&'a [bool], &'a [bool])> for Pack {
     fn row(self, part: &(&'a [bool], &'a [bool])) -> Option<BoolRow<'a>> {
-        None
+        let (items, flags) = *part;
+        Some(BoolRow::PackedWhole(PackedWhole {
+            items,
+            flags,
+            total: number_set(flags),
+        }))
     }
 }
 
@@ -114,7 +124,7 @@ impl<'a> JoinedKernel<(&'a [i64], &'a [bool], &'a Segd)> for PackSegments {
 
 impl<'a> IntKernel<'a, (&'a [i64], &'a [bool], &'a Segd)> for PackSegments {
     fn row(self, part: &(&'a [i64], &'a [bool], &'a Segd)) -> Option<IntRow<'a>> {
-        None
+        IntKernel::row(Pack, &(part.0, part.1))
     }
 }
 
@@ -147,6 +157,6 @@ impl<'a> JoinedKernel<(&'a [bool], &'a [bool], &'a Segd)> for PackSegments {
 
 impl<'a> BoolKernel<'a, (&'a [bool], &'a [bool], &'a Segd)> for PackSegments {
     fn row(self, part: &(&'a [bool], &'a [bool], &'a Segd)) -> Option<BoolRow<'a>> {
-        None
+        BoolKernel::row(Pack, &(part.0, part.1))
     }
 }

@@ -10,6 +10,7 @@ use crate::joined_rows::{BoolKernel, IntKernel};
 use crate::kernel::{JoinedKernel, Kernel, run_parts};
 use crate::rows::{BoolRow, IntRow};
 use crate::scan::scan;
+use crate::scans_in_parts::Scanned;
 use crate::shelf::Shelf;
 use item_operations::{ScanB, ScanZ};
 use segment_desc::Segd;
@@ -48,8 +49,16 @@ impl<'a> JoinedKernel<(&'a [i64], &'a Segd)> for ScanIntSegments {
 }
 
 impl<'a> IntKernel<'a, (&'a [i64], &'a Segd)> for ScanIntSegments {
+    #[tactic(auto, using(crate::proofs::Carried::fits_in_one_chunk))]
     fn row(self, part: &(&'a [i64], &'a Segd)) -> Option<IntRow<'a>> {
-        None
+        let (items, segments) = *part;
+        Some(IntRow::Scanned(Scanned {
+            op: self.0,
+            items,
+            lengths: segments.lengths(),
+            carries: &[],
+            size: items.len() + 1,
+        }))
     }
 }
 
@@ -86,7 +95,15 @@ impl<'a> JoinedKernel<(&'a [bool], &'a Segd)> for ScanBoolSegments {
 }
 
 impl<'a> BoolKernel<'a, (&'a [bool], &'a Segd)> for ScanBoolSegments {
+    #[tactic(auto, using(crate::proofs::Carried::fits_in_one_chunk))]
     fn row(self, part: &(&'a [bool], &'a Segd)) -> Option<BoolRow<'a>> {
-        None
+        let (items, segments) = *part;
+        Some(BoolRow::Scanned(Scanned {
+            op: self.0,
+            items,
+            lengths: segments.lengths(),
+            carries: &[],
+            size: items.len() + 1,
+        }))
     }
 }

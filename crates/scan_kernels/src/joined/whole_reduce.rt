@@ -9,16 +9,20 @@ ghost use Rattle.scan_kernels.specs.Metering.{CountsRun};
 ghost use Rattle.scan_kernels.specs.Segmented.{reduced, segmented_reduce};
 
 use crate::choices::{by_name, by_scan_b, by_scan_z};
+use crate::chunks::{bools_by_chunks, ints_by_chunks};
 use crate::execution::Execution;
 use crate::meter::Meter;
 use crate::reduce::reduce_segment;
+use crate::reduced_parts::ReducedParts;
+use crate::reduction_sizes::parts_size;
+use crate::rows::{BoolRow, IntRow};
 use item_operations::{Combine, ScanB, ScanZ};
 use segment_desc::OutOfMemory;
 use std::alloc::{AllocError, Global};
 
 /// What the operation makes of each part of integers, which is one segment: one run, which gives an item for each part.
 pub fn reduce_whole_z_joined(
-    _execution: &impl Execution,
+    execution: &impl Execution,
     alloc: Global,
     meter: &mut Meter,
     op: ScanZ,
@@ -29,9 +33,29 @@ pub fn reduce_whole_z_joined(
     ensures exact { IfOk result (λ made. IsExact made) }
     ensures counted { CountsRun result meter.old meter.new }
 {
-    let made = chosen_parts_z(alloc, op, parts)?;
+    let made = reduced_parts_z(execution, alloc, meter, op, parts)?;
     meter.raise();
     Ok(made)
+}
+
+/// The reductions of the parts of integers, by chunks of parts where that pays.
+fn reduced_parts_z(
+    execution: &impl Execution,
+    alloc: Global,
+    meter: &Meter,
+    op: ScanZ,
+    parts: &[&[i64]],
+) -> Result<Vec<i64>, AllocError>
+    ensures parts { IfOk result (λ made. made.items ≡ map (λ p. reduced (combine_z op) (unit_z op) p.now) parts.now) }
+    ensures exact { IfOk result (λ made. IsExact made) }
+{
+    match parts_size(execution, meter, parts.len(), total_items(parts)) {
+        Some(size) => {
+            let row = IntRow::ReducedParts(ReducedParts { op, parts });
+            ints_by_chunks(execution, alloc, row, size)
+        }
+        None => chosen_parts_z(alloc, op, parts),
+    }
 }
 
 fn chosen_parts_z(alloc: Global, op: ScanZ, parts: &[&[i64]]) -> Result<Vec<i64>, AllocError>
@@ -43,7 +67,7 @@ fn chosen_parts_z(alloc: Global, op: ScanZ, parts: &[&[i64]]) -> Result<Vec<i64>
 
 /// What the operation makes of each part of truth values, which is one segment: one run, which gives an item for each part.
 pub fn reduce_whole_b_joined(
-    _execution: &impl Execution,
+    execution: &impl Execution,
     alloc: Global,
     meter: &mut Meter,
     op: ScanB,
@@ -54,9 +78,29 @@ pub fn reduce_whole_b_joined(
     ensures exact { IfOk result (λ made. IsExact made) }
     ensures counted { CountsRun result meter.old meter.new }
 {
-    let made = chosen_parts_b(alloc, op, parts)?;
+    let made = reduced_parts_b(execution, alloc, meter, op, parts)?;
     meter.raise();
     Ok(made)
+}
+
+/// The reductions of the parts of truth values, by chunks of parts where that pays.
+fn reduced_parts_b(
+    execution: &impl Execution,
+    alloc: Global,
+    meter: &Meter,
+    op: ScanB,
+    parts: &[&[bool]],
+) -> Result<Vec<bool>, AllocError>
+    ensures parts { IfOk result (λ made. made.items ≡ map (λ p. reduced (combine_b op) (unit_b op) p.now) parts.now) }
+    ensures exact { IfOk result (λ made. IsExact made) }
+{
+    match parts_size(execution, meter, parts.len(), total_items(parts)) {
+        Some(size) => {
+            let row = BoolRow::ReducedParts(ReducedParts { op, parts });
+            bools_by_chunks(execution, alloc, row, size)
+        }
+        None => chosen_parts_b(alloc, op, parts),
+    }
 }
 
 fn chosen_parts_b(alloc: Global, op: ScanB, parts: &[&[bool]]) -> Result<Vec<bool>, AllocError>
@@ -64,6 +108,15 @@ fn chosen_parts_b(alloc: Global, op: ScanB, parts: &[&[bool]]) -> Result<Vec<boo
     ensures exact { IfOk result (λ made. IsExact made) }
 {
     by_scan_b!(op, reduce_parts(alloc, op, parts))
+}
+
+/// How many items the parts have, or as many as can be told.
+fn total_items<T>(parts: &[&[T]]) -> usize {
+    let mut total: usize = 0;
+    for part in parts {
+        total = total.saturating_add(part.len());
+    }
+    total
 }
 
 #[inline(always)]

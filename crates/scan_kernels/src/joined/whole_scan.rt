@@ -7,6 +7,7 @@ ghost use Rattle.scan_kernels.specs.Segmented.{scanned};
 use crate::choices::{by_name, by_scan_b, by_scan_z};
 use crate::joined_rows::{BoolKernel, IntKernel};
 use crate::kernel::{JoinedKernel, Kernel, run_parts};
+use crate::prefixes::Prefixes;
 use crate::rows::{BoolRow, IntRow};
 use crate::shelf::Shelf;
 use crate::whole::scan_whole;
@@ -43,7 +44,10 @@ impl<'a> JoinedKernel<&'a [i64]> for ScanInts {
 
 impl<'a> IntKernel<'a, &'a [i64]> for ScanInts {
     fn row(self, part: &&'a [i64]) -> Option<IntRow<'a>> {
-        None
+        Some(IntRow::Prefixes(Prefixes {
+            op: self.0,
+            items: part,
+        }))
     }
 }
 
@@ -77,6 +81,9 @@ impl<'a> JoinedKernel<&'a [bool]> for ScanBools {
 
 impl<'a> BoolKernel<'a, &'a [bool]> for ScanBools {
     fn row(self, part: &&'a [bool]) -> Option<BoolRow<'a>> {
-        None
+        Some(BoolRow::Prefixes(Prefixes {
+            op: self.0,
+            items: part,
+        }))
     }
 }

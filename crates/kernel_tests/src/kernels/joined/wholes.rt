@@ -20,15 +20,19 @@ fn scans_each_part(rt: HostRuntime) {
 
 #[test]
 fn reduces_each_part(rt: HostRuntime) {
-    let mut meter = Meter::new();
     let parts: [&[i64]; 3] = [&[1, 2, 3], &[], &[7]];
-    let made = reduce_whole_z_joined(&rt, rt.alloc(), &mut meter, ScanZ::Add, &parts);
-    assert!(rt; is_made(made, &[6i64, 0, 7]));
-    assert!(rt; meter.runs() == 1);
-    let parts: [&[bool]; 2] = [&[], &[true, false]];
-    let made = reduce_whole_b_joined(&rt, rt.alloc(), &mut meter, ScanB::And, &parts);
-    assert!(rt; is_made(made, &[true, false]));
-    assert!(rt; meter.runs() == 2);
+    let flags: [&[bool]; 2] = [&[], &[true, false]];
+    for chunk in [1, 2, 7, 4_096] {
+        let mut meter = Meter::with_chunk(chunk);
+        let made = reduce_whole_z_joined(&rt, rt.alloc(), &mut meter, ScanZ::Add, &parts);
+        assert!(rt; is_made(made, &[6i64, 0, 7]), "integers, chunk {chunk}");
+        let made = reduce_whole_b_joined(&rt, rt.alloc(), &mut meter, ScanB::And, &flags);
+        assert!(rt;
+            is_made(made, &[true, false]),
+            "truth values, chunk {chunk}"
+        );
+        assert!(rt; meter.runs() == 2, "chunk {chunk}");
+    }
 }
 
 #[test]
