@@ -90,6 +90,7 @@ pub fn packed_ints_by_chunks(
         numbers: &pieces.numbers[..pieces.count],
         total: pieces.total,
     });
+    let size = size_of_packed(flags.len(), pieces.total, size);
     ints_by_chunks(execution, source, row, size)
 }
 
@@ -114,7 +115,17 @@ pub fn packed_bools_by_chunks(
         numbers: &pieces.numbers[..pieces.count],
         total: pieces.total,
     });
+    let size = size_of_packed(flags.len(), pieces.total, size);
     bools_by_chunks(execution, source, row, size)
+}
+
+/// The size of as many chunks of what is packed as there are of the operands, of so many items.
+fn size_of_packed(count: usize, packed: usize, size: usize) -> usize
+    requires { 0 < size }
+    ensures { 0 < result }
+{
+    let chunks = count.div_ceil(size).max(1);
+    packed.div_ceil(chunks).max(1)
 }
 
 /// The pieces that flags are cut into, and how many flags each has set.
