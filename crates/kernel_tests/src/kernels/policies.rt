@@ -36,5 +36,5 @@ fn runs_by_a_counted_runtime(rt: HostRuntime) {
     );
     assert!(rt; is_made(made, &[-9i64, 18, 0]));
     assert!(rt; meter.runs() == 1);
-    assert!(rt; counted.processors() >= 1);
+    assert!(rt; counted.processors() == rt.processors());
 }
