@@ -19,23 +19,23 @@ use std::alloc::{AllocError, Global};
 
 /// A kernel whose results are integers, each of which can be written by itself.
 pub trait IntKernel<'a, P>: JoinedKernel<P, Item = i64> {
-    /// The result of a part as a row. There is none where a row has to be prepared.
-    fn row(self, part: &P) -> Option<IntRow<'a>>
+    /// The result of a part as a row.
+    fn row(self, part: &P) -> IntRow<'a>
         requires { Self.Takes self part.now }
-        ensures fits { IfSome result FitInts }
-        ensures items { IfSome result (λ row. ints_of row ≡ Self.makes self part.now) };
+        ensures fits { FitInts result }
+        ensures items { ints_of result ≡ Self.makes self part.now };
 }
 
 /// A kernel whose results are truth values, each of which can be written by itself.
 pub trait BoolKernel<'a, P>: JoinedKernel<P, Item = bool> {
-    /// The result of a part as a row. There is none where a row has to be prepared.
-    fn row(self, part: &P) -> Option<BoolRow<'a>>
+    /// The result of a part as a row.
+    fn row(self, part: &P) -> BoolRow<'a>
         requires { Self.Takes self part.now }
-        ensures fits { IfSome result FitBools }
-        ensures items { IfSome result (λ row. bools_of row ≡ Self.makes self part.now) };
+        ensures fits { FitBools result }
+        ensures items { bools_of result ≡ Self.makes self part.now };
 }
 
-/// The results of all parts as rows, if each is one and there is memory for their list.
+/// The results of all parts as rows, if there is memory for their list.
 fn int_rows<'a, P, K: IntKernel<'a, P>>(
     alloc: Global,
     kernel: K,
@@ -47,7 +47,7 @@ fn int_rows<'a, P, K: IntKernel<'a, P>>(
 {
     let mut rows = Vec::with_capacity(alloc, parts.len()).ok()?;
     for part in parts {
-        rows.push_reserved(kernel.row(part)?);
+        rows.push_reserved(kernel.row(part));
     }
     Some(rows)
 }
@@ -172,7 +172,7 @@ pub fn run_joined_ints<'a, P, K: IntKernel<'a, P>>(
     Ok(made)
 }
 
-/// The results of all parts as rows, if each is one and there is memory for their list.
+/// The results of all parts as rows, if there is memory for their list.
 fn bool_rows<'a, P, K: BoolKernel<'a, P>>(
     alloc: Global,
     kernel: K,
@@ -184,7 +184,7 @@ fn bool_rows<'a, P, K: BoolKernel<'a, P>>(
 {
     let mut rows = Vec::with_capacity(alloc, parts.len()).ok()?;
     for part in parts {
-        rows.push_reserved(kernel.row(part)?);
+        rows.push_reserved(kernel.row(part));
     }
     Some(rows)
 }

@@ -44,14 +44,14 @@ impl<'a> JoinedKernel<(&'a [i64], &'a Segd, &'a [i64], &'a Segd)> for BackPermut
 }
 
 impl<'a> IntKernel<'a, (&'a [i64], &'a Segd, &'a [i64], &'a Segd)> for BackPermute {
-    fn row(self, part: &(&'a [i64], &'a Segd, &'a [i64], &'a Segd)) -> Option<IntRow<'a>> {
+    fn row(self, part: &(&'a [i64], &'a Segd, &'a [i64], &'a Segd)) -> IntRow<'a> {
         let (items, source, index, by) = *part;
-        Some(IntRow::GatheredSegments(GatheredSegments {
+        IntRow::GatheredSegments(GatheredSegments {
             items,
             source: source.lengths(),
             index,
             by: by.lengths(),
-        }))
+        })
     }
 }
 
@@ -83,13 +83,13 @@ impl<'a> JoinedKernel<(&'a [bool], &'a Segd, &'a [i64], &'a Segd)> for BackPermu
 }
 
 impl<'a> BoolKernel<'a, (&'a [bool], &'a Segd, &'a [i64], &'a Segd)> for BackPermute {
-    fn row(self, part: &(&'a [bool], &'a Segd, &'a [i64], &'a Segd)) -> Option<BoolRow<'a>> {
+    fn row(self, part: &(&'a [bool], &'a Segd, &'a [i64], &'a Segd)) -> BoolRow<'a> {
         let (items, source, index, by) = *part;
-        Some(BoolRow::GatheredSegments(GatheredSegments {
+        BoolRow::GatheredSegments(GatheredSegments {
             items,
             source: source.lengths(),
             index,
             by: by.lengths(),
-        }))
+        })
     }
 }

@@ -42,9 +42,9 @@ impl<'a> JoinedKernel<(&'a [i64], &'a [i64])> for Gather {
 }
 
 impl<'a> IntKernel<'a, (&'a [i64], &'a [i64])> for Gather {
-    fn row(self, part: &(&'a [i64], &'a [i64])) -> Option<IntRow<'a>> {
+    fn row(self, part: &(&'a [i64], &'a [i64])) -> IntRow<'a> {
         let (items, index) = *part;
-        Some(IntRow::Gathered(Gathered { items, index }))
+        IntRow::Gathered(Gathered { items, index })
     }
 }
 
@@ -76,8 +76,8 @@ impl<'a> JoinedKernel<(&'a [bool], &'a [i64])> for Gather {
 }
 
 impl<'a> BoolKernel<'a, (&'a [bool], &'a [i64])> for Gather {
-    fn row(self, part: &(&'a [bool], &'a [i64])) -> Option<BoolRow<'a>> {
+    fn row(self, part: &(&'a [bool], &'a [i64])) -> BoolRow<'a> {
         let (items, index) = *part;
-        Some(BoolRow::Gathered(Gathered { items, index }))
+        BoolRow::Gathered(Gathered { items, index })
     }
 }

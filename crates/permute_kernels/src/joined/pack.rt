@@ -43,13 +43,13 @@ impl<'a> JoinedKernel<(&'a [i64], &'a [bool])> for Pack {
 }
 
 impl<'a> IntKernel<'a, (&'a [i64], &'a [bool])> for Pack {
-    fn row(self, part: &(&'a [i64], &'a [bool])) -> Option<IntRow<'a>> {
+    fn row(self, part: &(&'a [i64], &'a [bool])) -> IntRow<'a> {
         let (items, flags) = *part;
-        Some(IntRow::PackedWhole(PackedWhole {
+        IntRow::PackedWhole(PackedWhole {
             items,
             flags,
             total: number_set(flags),
-        }))
+        })
     }
 }
 
@@ -81,13 +81,13 @@ impl<'a> JoinedKernel<(&'a [bool], &'a [bool])> for Pack {
 }
 
 impl<'a> BoolKernel<'a, (&'a [bool], &'a [bool])> for Pack {
-    fn row(self, part: &(&'a [bool], &'a [bool])) -> Option<BoolRow<'a>> {
+    fn row(self, part: &(&'a [bool], &'a [bool])) -> BoolRow<'a> {
         let (items, flags) = *part;
-        Some(BoolRow::PackedWhole(PackedWhole {
+        BoolRow::PackedWhole(PackedWhole {
             items,
             flags,
             total: number_set(flags),
-        }))
+        })
     }
 }
 
@@ -123,7 +123,7 @@ impl<'a> JoinedKernel<(&'a [i64], &'a [bool], &'a Segd)> for PackSegments {
 }
 
 impl<'a> IntKernel<'a, (&'a [i64], &'a [bool], &'a Segd)> for PackSegments {
-    fn row(self, part: &(&'a [i64], &'a [bool], &'a Segd)) -> Option<IntRow<'a>> {
+    fn row(self, part: &(&'a [i64], &'a [bool], &'a Segd)) -> IntRow<'a> {
         IntKernel::row(Pack, &(part.0, part.1))
     }
 }
@@ -156,7 +156,7 @@ impl<'a> JoinedKernel<(&'a [bool], &'a [bool], &'a Segd)> for PackSegments {
 }
 
 impl<'a> BoolKernel<'a, (&'a [bool], &'a [bool], &'a Segd)> for PackSegments {
-    fn row(self, part: &(&'a [bool], &'a [bool], &'a Segd)) -> Option<BoolRow<'a>> {
+    fn row(self, part: &(&'a [bool], &'a [bool], &'a Segd)) -> BoolRow<'a> {
         BoolKernel::row(Pack, &(part.0, part.1))
     }
 }

@@ -41,11 +41,11 @@ impl<'a> JoinedKernel<(&'a [bool], &'a Segd)> for PackLengths {
 }
 
 impl<'a> IntKernel<'a, (&'a [bool], &'a Segd)> for PackLengths {
-    fn row(self, part: &(&'a [bool], &'a Segd)) -> Option<IntRow<'a>> {
+    fn row(self, part: &(&'a [bool], &'a Segd)) -> IntRow<'a> {
         let (flags, segments) = *part;
-        Some(IntRow::SetNumbers(SetNumbers {
+        IntRow::SetNumbers(SetNumbers {
             flags,
             lengths: segments.lengths(),
-        }))
+        })
     }
 }

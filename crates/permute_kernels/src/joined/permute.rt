@@ -44,13 +44,13 @@ impl<'a> JoinedKernel<(&'a [i64], &'a [i64], &'a Segd)> for Permute {
 }
 
 impl<'a> IntKernel<'a, (&'a [i64], &'a [i64], &'a Segd)> for Permute {
-    fn row(self, part: &(&'a [i64], &'a [i64], &'a Segd)) -> Option<IntRow<'a>> {
+    fn row(self, part: &(&'a [i64], &'a [i64], &'a Segd)) -> IntRow<'a> {
         let (items, index, segments) = *part;
-        Some(IntRow::PermutedSegments(PermutedSegments {
+        IntRow::PermutedSegments(PermutedSegments {
             items,
             index,
             lengths: segments.lengths(),
-        }))
+        })
     }
 }
 
@@ -82,12 +82,12 @@ impl<'a> JoinedKernel<(&'a [bool], &'a [i64], &'a Segd)> for Permute {
 }
 
 impl<'a> BoolKernel<'a, (&'a [bool], &'a [i64], &'a Segd)> for Permute {
-    fn row(self, part: &(&'a [bool], &'a [i64], &'a Segd)) -> Option<BoolRow<'a>> {
+    fn row(self, part: &(&'a [bool], &'a [i64], &'a Segd)) -> BoolRow<'a> {
         let (items, index, segments) = *part;
-        Some(BoolRow::PermutedSegments(PermutedSegments {
+        BoolRow::PermutedSegments(PermutedSegments {
             items,
             index,
             lengths: segments.lengths(),
-        }))
+        })
     }
 }

@@ -42,9 +42,9 @@ impl<'a> JoinedKernel<(&'a [i64], &'a [i64])> for PermuteWhole {
 }
 
 impl<'a> IntKernel<'a, (&'a [i64], &'a [i64])> for PermuteWhole {
-    fn row(self, part: &(&'a [i64], &'a [i64])) -> Option<IntRow<'a>> {
+    fn row(self, part: &(&'a [i64], &'a [i64])) -> IntRow<'a> {
         let (items, index) = *part;
-        Some(IntRow::Permuted(Permuted { items, index }))
+        IntRow::Permuted(Permuted { items, index })
     }
 }
 
@@ -76,8 +76,8 @@ impl<'a> JoinedKernel<(&'a [bool], &'a [i64])> for PermuteWhole {
 }
 
 impl<'a> BoolKernel<'a, (&'a [bool], &'a [i64])> for PermuteWhole {
-    fn row(self, part: &(&'a [bool], &'a [i64])) -> Option<BoolRow<'a>> {
+    fn row(self, part: &(&'a [bool], &'a [i64])) -> BoolRow<'a> {
         let (items, index) = *part;
-        Some(BoolRow::Permuted(Permuted { items, index }))
+        BoolRow::Permuted(Permuted { items, index })
     }
 }

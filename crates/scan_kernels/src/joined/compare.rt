@@ -43,8 +43,8 @@ impl<'a> JoinedKernel<(&'a [i64], &'a [i64])> for Cmp {
 }
 
 impl<'a> BoolKernel<'a, (&'a [i64], &'a [i64])> for Cmp {
-    fn row(self, part: &(&'a [i64], &'a [i64])) -> Option<BoolRow<'a>> {
+    fn row(self, part: &(&'a [i64], &'a [i64])) -> BoolRow<'a> {
         let (op, (left, right)) = (self, *part);
-        Some(BoolRow::Compared(Compared { op, left, right }))
+        BoolRow::Compared(Compared { op, left, right })
     }
 }

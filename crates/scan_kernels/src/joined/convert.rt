@@ -39,8 +39,8 @@ impl<'a> JoinedKernel<&'a [i64]> for Truth {
 }
 
 impl<'a> BoolKernel<'a, &'a [i64]> for Truth {
-    fn row(self, part: &&'a [i64]) -> Option<BoolRow<'a>> {
-        Some(BoolRow::Truths(Truths { items: part }))
+    fn row(self, part: &&'a [i64]) -> BoolRow<'a> {
+        BoolRow::Truths(Truths { items: part })
     }
 }
 
@@ -72,7 +72,7 @@ impl<'a> JoinedKernel<&'a [bool]> for Number {
 }
 
 impl<'a> IntKernel<'a, &'a [bool]> for Number {
-    fn row(self, part: &&'a [bool]) -> Option<IntRow<'a>> {
-        Some(IntRow::Numbers(Numbers { items: part }))
+    fn row(self, part: &&'a [bool]) -> IntRow<'a> {
+        IntRow::Numbers(Numbers { items: part })
     }
 }

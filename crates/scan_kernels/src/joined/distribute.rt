@@ -44,13 +44,13 @@ impl<'a> JoinedKernel<(&'a [i64], &'a Segd)> for Distribute {
 }
 
 impl<'a> IntKernel<'a, (&'a [i64], &'a Segd)> for Distribute {
-    fn row(self, part: &(&'a [i64], &'a Segd)) -> Option<IntRow<'a>> {
+    fn row(self, part: &(&'a [i64], &'a Segd)) -> IntRow<'a> {
         let (values, segments) = *part;
-        Some(IntRow::Distributed(Distributed {
+        IntRow::Distributed(Distributed {
             values,
             lengths: segments.lengths(),
             total: segments.total(),
-        }))
+        })
     }
 }
 
@@ -82,12 +82,12 @@ impl<'a> JoinedKernel<(&'a [bool], &'a Segd)> for Distribute {
 }
 
 impl<'a> BoolKernel<'a, (&'a [bool], &'a Segd)> for Distribute {
-    fn row(self, part: &(&'a [bool], &'a Segd)) -> Option<BoolRow<'a>> {
+    fn row(self, part: &(&'a [bool], &'a Segd)) -> BoolRow<'a> {
         let (values, segments) = *part;
-        Some(BoolRow::Distributed(Distributed {
+        BoolRow::Distributed(Distributed {
             values,
             lengths: segments.lengths(),
             total: segments.total(),
-        }))
+        })
     }
 }

@@ -40,9 +40,9 @@ impl JoinedKernel<(i64, usize)> for Repeat {
 }
 
 impl<'a> IntKernel<'a, (i64, usize)> for Repeat {
-    fn row(self, part: &(i64, usize)) -> Option<IntRow<'a>> {
+    fn row(self, part: &(i64, usize)) -> IntRow<'a> {
         let (item, count) = *part;
-        Some(IntRow::Repeated(Repeated { item, count }))
+        IntRow::Repeated(Repeated { item, count })
     }
 }
 
@@ -70,9 +70,9 @@ impl JoinedKernel<(bool, usize)> for Repeat {
 }
 
 impl<'a> BoolKernel<'a, (bool, usize)> for Repeat {
-    fn row(self, part: &(bool, usize)) -> Option<BoolRow<'a>> {
+    fn row(self, part: &(bool, usize)) -> BoolRow<'a> {
         let (item, count) = *part;
-        Some(BoolRow::Repeated(Repeated { item, count }))
+        BoolRow::Repeated(Repeated { item, count })
     }
 }
 
@@ -104,12 +104,12 @@ impl JoinedKernel<(i64, i64, usize)> for Index {
 }
 
 impl<'a> IntKernel<'a, (i64, i64, usize)> for Index {
-    fn row(self, part: &(i64, i64, usize)) -> Option<IntRow<'a>> {
+    fn row(self, part: &(i64, i64, usize)) -> IntRow<'a> {
         let (start, stride, count) = *part;
-        Some(IntRow::Rising(Rising {
+        IntRow::Rising(Rising {
             start,
             stride,
             count,
-        }))
+        })
     }
 }

@@ -44,13 +44,13 @@ impl<'a> JoinedKernel<(&'a [i64], &'a [i64], &'a Segd)> for IndexSegments {
 }
 
 impl<'a> IntKernel<'a, (&'a [i64], &'a [i64], &'a Segd)> for IndexSegments {
-    fn row(self, part: &(&'a [i64], &'a [i64], &'a Segd)) -> Option<IntRow<'a>> {
+    fn row(self, part: &(&'a [i64], &'a [i64], &'a Segd)) -> IntRow<'a> {
         let (starts, strides, segments) = *part;
-        Some(IntRow::RisingSegments(RisingSegments {
+        IntRow::RisingSegments(RisingSegments {
             starts,
             strides,
             lengths: segments.lengths(),
             total: segments.total(),
-        }))
+        })
     }
 }

@@ -40,9 +40,9 @@ impl<'a> JoinedKernel<&'a [i64]> for Z1 {
 }
 
 impl<'a> IntKernel<'a, &'a [i64]> for Z1 {
-    fn row(self, part: &&'a [i64]) -> Option<IntRow<'a>> {
+    fn row(self, part: &&'a [i64]) -> IntRow<'a> {
         let op = self;
-        Some(IntRow::Altered(AlteredInts { op, items: part }))
+        IntRow::Altered(AlteredInts { op, items: part })
     }
 }
 
@@ -71,9 +71,9 @@ impl<'a> JoinedKernel<&'a [bool]> for B1 {
 }
 
 impl<'a> BoolKernel<'a, &'a [bool]> for B1 {
-    fn row(self, part: &&'a [bool]) -> Option<BoolRow<'a>> {
+    fn row(self, part: &&'a [bool]) -> BoolRow<'a> {
         let op = self;
-        Some(BoolRow::Altered(AlteredBools { op, items: part }))
+        BoolRow::Altered(AlteredBools { op, items: part })
     }
 }
 
@@ -106,9 +106,9 @@ impl<'a> JoinedKernel<(&'a [i64], &'a [i64])> for Z2 {
 }
 
 impl<'a> IntKernel<'a, (&'a [i64], &'a [i64])> for Z2 {
-    fn row(self, part: &(&'a [i64], &'a [i64])) -> Option<IntRow<'a>> {
+    fn row(self, part: &(&'a [i64], &'a [i64])) -> IntRow<'a> {
         let (op, (left, right)) = (self, *part);
-        Some(IntRow::Applied(AppliedInts { op, left, right }))
+        IntRow::Applied(AppliedInts { op, left, right })
     }
 }
 
@@ -141,8 +141,8 @@ impl<'a> JoinedKernel<(&'a [bool], &'a [bool])> for B2 {
 }
 
 impl<'a> BoolKernel<'a, (&'a [bool], &'a [bool])> for B2 {
-    fn row(self, part: &(&'a [bool], &'a [bool])) -> Option<BoolRow<'a>> {
+    fn row(self, part: &(&'a [bool], &'a [bool])) -> BoolRow<'a> {
         let (op, (left, right)) = (self, *part);
-        Some(BoolRow::Applied(AppliedBools { op, left, right }))
+        BoolRow::Applied(AppliedBools { op, left, right })
     }
 }

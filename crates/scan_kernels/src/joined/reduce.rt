@@ -49,13 +49,13 @@ impl<'a> JoinedKernel<(&'a [i64], &'a Segd)> for ReduceIntSegments {
 }
 
 impl<'a> IntKernel<'a, (&'a [i64], &'a Segd)> for ReduceIntSegments {
-    fn row(self, part: &(&'a [i64], &'a Segd)) -> Option<IntRow<'a>> {
+    fn row(self, part: &(&'a [i64], &'a Segd)) -> IntRow<'a> {
         let (items, segments) = *part;
-        Some(IntRow::Reduced(ReducedInts {
+        IntRow::Reduced(ReducedInts {
             op: self.0,
             items,
             lengths: segments.lengths(),
-        }))
+        })
     }
 }
 
@@ -92,12 +92,12 @@ impl<'a> JoinedKernel<(&'a [bool], &'a Segd)> for ReduceBoolSegments {
 }
 
 impl<'a> BoolKernel<'a, (&'a [bool], &'a Segd)> for ReduceBoolSegments {
-    fn row(self, part: &(&'a [bool], &'a Segd)) -> Option<BoolRow<'a>> {
+    fn row(self, part: &(&'a [bool], &'a Segd)) -> BoolRow<'a> {
         let (items, segments) = *part;
-        Some(BoolRow::Reduced(ReducedBools {
+        BoolRow::Reduced(ReducedBools {
             op: self.0,
             items,
             lengths: segments.lengths(),
-        }))
+        })
     }
 }

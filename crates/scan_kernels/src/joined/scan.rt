@@ -50,15 +50,15 @@ impl<'a> JoinedKernel<(&'a [i64], &'a Segd)> for ScanIntSegments {
 
 impl<'a> IntKernel<'a, (&'a [i64], &'a Segd)> for ScanIntSegments {
     #[tactic(auto, using(crate::proofs::Carried::fits_in_one_chunk))]
-    fn row(self, part: &(&'a [i64], &'a Segd)) -> Option<IntRow<'a>> {
+    fn row(self, part: &(&'a [i64], &'a Segd)) -> IntRow<'a> {
         let (items, segments) = *part;
-        Some(IntRow::Scanned(Scanned {
+        IntRow::Scanned(Scanned {
             op: self.0,
             items,
             lengths: segments.lengths(),
             carries: &[],
             size: items.len() + 1,
-        }))
+        })
     }
 }
 
@@ -96,14 +96,14 @@ impl<'a> JoinedKernel<(&'a [bool], &'a Segd)> for ScanBoolSegments {
 
 impl<'a> BoolKernel<'a, (&'a [bool], &'a Segd)> for ScanBoolSegments {
     #[tactic(auto, using(crate::proofs::Carried::fits_in_one_chunk))]
-    fn row(self, part: &(&'a [bool], &'a Segd)) -> Option<BoolRow<'a>> {
+    fn row(self, part: &(&'a [bool], &'a Segd)) -> BoolRow<'a> {
         let (items, segments) = *part;
-        Some(BoolRow::Scanned(Scanned {
+        BoolRow::Scanned(Scanned {
             op: self.0,
             items,
             lengths: segments.lengths(),
             carries: &[],
             size: items.len() + 1,
-        }))
+        })
     }
 }

@@ -43,9 +43,9 @@ impl<'a> JoinedKernel<(&'a [bool], &'a [i64], &'a [i64])> for Select {
 }
 
 impl<'a> IntKernel<'a, (&'a [bool], &'a [i64], &'a [i64])> for Select {
-    fn row(self, part: &(&'a [bool], &'a [i64], &'a [i64])) -> Option<IntRow<'a>> {
+    fn row(self, part: &(&'a [bool], &'a [i64], &'a [i64])) -> IntRow<'a> {
         let (flags, set, unset) = *part;
-        Some(IntRow::Selected(Selected { flags, set, unset }))
+        IntRow::Selected(Selected { flags, set, unset })
     }
 }
 
@@ -77,8 +77,8 @@ impl<'a> JoinedKernel<(&'a [bool], &'a [bool], &'a [bool])> for Select {
 }
 
 impl<'a> BoolKernel<'a, (&'a [bool], &'a [bool], &'a [bool])> for Select {
-    fn row(self, part: &(&'a [bool], &'a [bool], &'a [bool])) -> Option<BoolRow<'a>> {
+    fn row(self, part: &(&'a [bool], &'a [bool], &'a [bool])) -> BoolRow<'a> {
         let (flags, set, unset) = *part;
-        Some(BoolRow::Selected(Selected { flags, set, unset }))
+        BoolRow::Selected(Selected { flags, set, unset })
     }
 }

@@ -43,11 +43,11 @@ impl<'a> JoinedKernel<&'a [i64]> for ScanInts {
 }
 
 impl<'a> IntKernel<'a, &'a [i64]> for ScanInts {
-    fn row(self, part: &&'a [i64]) -> Option<IntRow<'a>> {
-        Some(IntRow::Prefixes(Prefixes {
+    fn row(self, part: &&'a [i64]) -> IntRow<'a> {
+        IntRow::Prefixes(Prefixes {
             op: self.0,
             items: part,
-        }))
+        })
     }
 }
 
@@ -80,10 +80,10 @@ impl<'a> JoinedKernel<&'a [bool]> for ScanBools {
 }
 
 impl<'a> BoolKernel<'a, &'a [bool]> for ScanBools {
-    fn row(self, part: &&'a [bool]) -> Option<BoolRow<'a>> {
-        Some(BoolRow::Prefixes(Prefixes {
+    fn row(self, part: &&'a [bool]) -> BoolRow<'a> {
+        BoolRow::Prefixes(Prefixes {
             op: self.0,
             items: part,
-        }))
+        })
     }
 }

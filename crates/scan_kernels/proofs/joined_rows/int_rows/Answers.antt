@@ -7,11 +7,11 @@ use Rattle.scan_kernels.proofs.joined_rows.int_rows.Goals as goal
 pub loop-part-preserved : goal.loop-part-preserved
 loop-part-preserved g c =
     let rows = c.loop-part.rows.items in
-    let row = c.in_ok-row.field-0 in
+    let row = c.row.result in
     let added = c.push_reserved.ensures.items in
     record {
-      items = rows_next ints_of (g.K.Kernel.makes c.args.kernel) rows c.push_reserved.new.self.items c.args.parts.now c.loop-part.part-index row c.part-item.result added c.loop-part-test.true c.part-item.is c.in_ok-row.ensures.items c.loop-part.invariant.items;
-      fits = subst (All FitInts) (sym added) (All-push FitInts rows row c.loop-part.invariant.fits c.in_ok-row.ensures.fits);
+      items = rows_next ints_of (g.K.Kernel.makes c.args.kernel) rows c.push_reserved.new.self.items c.args.parts.now c.loop-part.part-index row c.part-item.result added c.loop-part-test.true c.part-item.is c.row.ensures.items c.loop-part.invariant.items;
+      fits = subst (All FitInts) (sym added) (All-push FitInts rows row c.loop-part.invariant.fits c.row.ensures.fits);
       long = omega (arith, c.loop-part.invariant.long, c.push_reserved.ensures.len);
       room = c.push_reserved.ensures.capacity ∙ c.loop-part.invariant.room;
     }
