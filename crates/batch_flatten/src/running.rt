@@ -76,6 +76,49 @@ fn serve_waves(
     singles
 }
 
+/// Serves a batch of several requests. It stands apart, so that the arrays for so many requests are no part of a batch of one.
+#[inline(never)]
+fn serve_many(
+    execution: &impl Execution,
+    alloc: Global,
+    book: &mut Book,
+    requests: &mut Vec<Request>,
+    outcomes: &mut Vec<Outcome>,
+    meter: &mut Meter,
+) -> Ran
+    requires few { vec_len requests.old ≤ BATCH_LIMIT }
+    requires lawful { AllByRecursion (λ r. r.caller < caller_limit) requests.old.items }
+    requires jobs { AllByRecursion (λ r. IsLawfulJob r.job) requests.old.items }
+    requires distinct { AllPairs (λ r s. r.caller ≢ s.caller) requests.old.items }
+    requires empty { outcomes.old.items ≡ [] }
+    requires spaces { vec_len requests.old ≤ vec_capacity outcomes.old }
+    ensures serves { ServesInOrder book.old.bounds book.old.history requests.old.items book.new.history outcomes.new.items }
+    ensures bounds { book.new.bounds ≡ book.old.bounds }
+    ensures waves { (result.waves ≡ wave_count requests.old.items)
+        ⊎ ((result ≡ Ran.NOTHING) × (book.new.history ≡ book.old.history) × (outcomes.new.items ≡ map returned requests.old.items)) }
+    ensures sure { 0 < result.waves → AnswersAllSure requests.old.items outcomes.new.items }
+    ensures bound { result.kernels ≤ kernel_bound requests.old.items + result.singles }
+    ensures few_singles { result.singles ≤ length requests.old.items }
+    ensures kernels { meter.new ≡ record meter.old { runs = meter.old.runs + result.kernels } }
+    ensures requests { requests.new.items ≡ [] }
+    ensures request_spaces { vec_capacity requests.new ≡ vec_capacity requests.old }
+    ensures outcome_spaces { vec_capacity outcomes.new ≡ vec_capacity outcomes.old }
+{
+    // In a book no block is cut.
+    let _entries = book.len();
+    let roll = open(requests, outcomes);
+    let Ok(()) = book.reserve(roll.calls) else {
+        return Ran::NOTHING;
+    };
+    let before = meter.runs();
+    let singles = serve_waves(execution, alloc, meter, book, &roll, outcomes);
+    Ran {
+        waves: u64::from(roll.count),
+        kernels: meter.runs() - before,
+        singles,
+    }
+}
+
 /// Serves the requests of a batch in the order of their waves. What became of them stands in their own order. A block takes its turn
 /// as one: its calls stand next to one another in the history, or all of them come back. Where the history cannot be reserved, each
 /// job comes back and nothing changes.
@@ -106,19 +149,8 @@ pub fn run_batch(
     ensures outcome_spaces { vec_capacity outcomes.new ≡ vec_capacity outcomes.old }
 {
     if requests.len() < 2 {
-        return serve_alone(execution, alloc, book, requests, outcomes, meter);
-    }
-    // In a book no block is cut.
-    let _entries = book.len();
-    let roll = open(requests, outcomes);
-    let Ok(()) = book.reserve(roll.calls) else {
-        return Ran::NOTHING;
-    };
-    let before = meter.runs();
-    let singles = serve_waves(execution, alloc, meter, book, &roll, outcomes);
-    Ran {
-        waves: u64::from(roll.count),
-        kernels: meter.runs() - before,
-        singles,
+        serve_alone(execution, alloc, book, requests, outcomes, meter)
+    } else {
+        serve_many(execution, alloc, book, requests, outcomes, meter)
     }
 }

@@ -2,7 +2,7 @@ use Rattle.std.proofs.Common.{arith, rules, ◌≡◌, ◌∙◌, ap, length, ve
 use Rattle.std.proofs.lemmas.List.{length-map}
 use Rattle.call_history.specs.Fits.{returned}
 use Rattle.batch_flatten.proofs.BatchLemmas.{batch_back, batch_bound, batch_done, batch_sure}
-use Rattle.batch_flatten.proofs.running.run_batch.Goals as goal
+use Rattle.batch_flatten.proofs.running.serve_many.Goals as goal
 
 pub returns-in_default-clause-serves : goal.returns-in_default-clause-serves
 returns-in_default-clause-serves g c =
