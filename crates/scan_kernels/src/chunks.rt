@@ -161,8 +161,8 @@ fn few_size(execution: &impl Execution, meter: &Meter, count: usize, pays: bool)
 }
 
 /// From how many items on threads are started that each go through a whole index and write what falls into their part, also into
-/// fresh memory: later than for gathers, since each reads the whole index, and not measured by itself.
-const PERMUTES_PAY: usize = 1_000_000;
+/// fresh memory: found by `bench chunks` on four processors, where they were level at half as many.
+const PERMUTES_PAY: usize = 524_288;
 
 /// The size of the chunks in which a kernel moves so many items to scattered places, if it goes by chunks. There are few, since
 /// each goes through the whole index.
@@ -189,8 +189,8 @@ pub fn gather_segments_size(
 }
 
 /// From how many items on threads are started to pack, also into fresh memory: found by `bench chunks` on four processors, where
-/// they were ahead. Fewer were not tried.
-const PACKS_PAY: usize = 1_000_000;
+/// they were level at half as many, ahead over a vector that was kept and behind in fresh memory.
+const PACKS_PAY: usize = 524_288;
 
 /// The size of the chunks in which a kernel packs so many items, if it goes by chunks. There are few, since each looks for the piece
 /// of the operands in which it begins.
