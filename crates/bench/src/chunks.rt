@@ -1,11 +1,12 @@
 //! The rows of kernels in chunks: each kernel into fresh memory and over a vector that was kept, and each test of an index, in one
-//! thread and by a runtime with threads, whose processors were counted. The ways take turns of a few runs, and of each the least time
-//! counts.
+//! thread and by a runtime with threads, whose processors were counted. The ways take turns of a few runs, of which the first are not
+//! timed, and of each the least time counts.
 
 use crate::inputs::Inputs;
 use crate::runs::Failure;
 use permute_kernels::{
-    are_places_by, gather_z, in_range_by, is_permutation_by, is_whole_permutation_by, pack_z,
+    are_places_by, back_permute_z, gather_z, in_range_by, is_permutation_by,
+    is_whole_permutation_by, pack_z, permute_whole_z, permute_z,
 };
 use scan_kernels::{
     Execution, Kept, Meter, ScanZ, Sequential, Z2, distribute_z, index_whole, map2_z,
@@ -23,8 +24,12 @@ const SIZES: [u32; 6] = [65_536, 131_072, 262_144, 524_288, 1_000_000, 16_000_00
 /// How many turns each way has.
 const TURNS: u32 = 5;
 
-/// How many runs a turn has.
+/// How many runs a turn has that are timed.
 const IN_A_ROW: u32 = 6;
+
+/// How many runs come before those: they find the caches as the other way left them, whose threads spread the operands over the
+/// caches of all processors. One thread then reads a million items faster than it ever does by itself.
+const NOT_TIMED: u32 = 3;
 
 /// A kernel over one of the inputs, or a test of an index.
 #[derive(Clone, Copy)]
@@ -36,6 +41,9 @@ enum Row {
     Reduce,
     SegmentedReduce,
     Gather,
+    SegmentedGather,
+    Permute,
+    SegmentedPermute,
     Pack,
     Distribute,
     Index,
@@ -46,7 +54,7 @@ enum Row {
 }
 
 /// In the order of the rows.
-const ROWS: [Row; 14] = [
+const ROWS: [Row; 17] = [
     Row::Add,
     Row::Select,
     Row::Scan,
@@ -54,6 +62,9 @@ const ROWS: [Row; 14] = [
     Row::Reduce,
     Row::SegmentedReduce,
     Row::Gather,
+    Row::SegmentedGather,
+    Row::Permute,
+    Row::SegmentedPermute,
     Row::Pack,
     Row::Distribute,
     Row::Index,
@@ -73,6 +84,9 @@ impl Row {
             Row::Reduce => "reduce",
             Row::SegmentedReduce => "segreduce",
             Row::Gather => "gather",
+            Row::SegmentedGather => "seggather",
+            Row::Permute => "permute",
+            Row::SegmentedPermute => "segpermute",
             Row::Pack => "pack",
             Row::Distribute => "distribute",
             Row::Index => "index",
@@ -116,6 +130,9 @@ impl Row {
             }
             Row::SegmentedReduce => reduce(execution, meter, items, &inputs.mixed, kept),
             Row::Gather => gather(execution, meter, items, &inputs.index, kept),
+            Row::SegmentedGather => gather_within(execution, meter, items, inputs, kept),
+            Row::Permute => permute(execution, meter, items, &inputs.index, kept),
+            Row::SegmentedPermute => permute_within(execution, meter, items, inputs, kept),
             Row::Pack => pack(execution, meter, items, flags, kept),
             Row::Distribute => distribute(execution, meter, items, &inputs.mixed, kept),
             Row::Index => index(execution, meter, items.len(), kept),
@@ -229,6 +246,65 @@ fn gather(
     Ok(gather_z(execution, Kept::new(kept), meter, items, index)?)
 }
 
+// With the test of its index, as a call makes it.
+fn gather_within(
+    execution: &impl Execution,
+    meter: &mut Meter,
+    items: &[i64],
+    inputs: &Inputs,
+    kept: Vec<i64>,
+) -> Result<Vec<i64>, Failure> {
+    let (index, segments) = (inputs.inner.as_slice(), &inputs.mixed);
+    if segments.total() != items.len()
+        || segments.total() != index.len()
+        || !in_range_by(execution, meter, index, segments, segments)
+    {
+        return Err(Failure::Uneven);
+    }
+    Ok(back_permute_z(
+        execution,
+        Kept::new(kept),
+        meter,
+        items,
+        segments,
+        index,
+        segments,
+    )?)
+}
+
+// With the test of its index, as a call makes it.
+fn permute(
+    execution: &impl Execution,
+    meter: &mut Meter,
+    items: &[i64],
+    index: &[i64],
+    kept: Vec<i64>,
+) -> Result<Vec<i64>, Failure> {
+    let permutes = is_whole_permutation_by(execution, *kept.allocator(), meter, index)?;
+    if !permutes || index.len() != items.len() {
+        return Err(Failure::Uneven);
+    }
+    Ok(permute_whole_z(execution, Kept::new(kept), meter, items, index)?)
+}
+
+// With the test of its index, as a call makes it.
+fn permute_within(
+    execution: &impl Execution,
+    meter: &mut Meter,
+    items: &[i64],
+    inputs: &Inputs,
+    kept: Vec<i64>,
+) -> Result<Vec<i64>, Failure> {
+    let (index, segments) = (inputs.inner.as_slice(), &inputs.mixed);
+    if index.len() != items.len()
+        || segments.total() != index.len()
+        || !is_permutation_by(execution, *kept.allocator(), meter, index, segments)?
+    {
+        return Err(Failure::Uneven);
+    }
+    Ok(permute_z(execution, Kept::new(kept), meter, items, index, segments)?)
+}
+
 fn pack(
     execution: &impl Execution,
     meter: &mut Meter,
@@ -340,6 +416,9 @@ fn least_in_a_row(
     fresh: bool,
     made: &mut Vec<i64>,
 ) -> io::Result<u32> {
+    for _repeat in 0..NOT_TIMED {
+        time(rt, execution, row, inputs, fresh, made)?;
+    }
     let mut least = u32::MAX;
     for _repeat in 0..IN_A_ROW {
         least = least.min(time(rt, execution, row, inputs, fresh, made)?);
@@ -365,24 +444,40 @@ fn least<R: Alloc<A = Global> + Clock>(
     Ok(least)
 }
 
-/// Prints for each kernel, number of items and kind of memory the nanoseconds of a run in one thread, and by a policy with threads.
-pub fn rows<R: Alloc<A = Global> + Clock + Print>(
+/// Prints for a kernel over so many items, for each kind of memory, the nanoseconds of a run in one thread, and by a policy with threads.
+fn print_rows<R: Alloc<A = Global> + Clock + Print>(
     rt: &R,
     policy: &impl Execution,
+    row: Row,
+    size: u32,
+    inputs: &Inputs,
 ) -> io::Result<()> {
-    for size in SIZES {
-        let inputs = Inputs::new(rt.alloc(), size)?;
-        for row in &ROWS {
-            for fresh in [false, true] {
-                let Some(memory) = row.memory(fresh) else {
-                    continue;
-                };
-                let (alone, threads) = least(rt, policy, *row, &inputs, fresh)?;
-                let name = row.name();
-                println!(rt; "chunks\t{name}/{memory}/{size}\tone thread\t{alone}")?;
-                println!(rt; "chunks\t{name}/{memory}/{size}\tthreads\t{threads}")?;
-            }
+    for fresh in [false, true] {
+        if let Some(memory) = row.memory(fresh) {
+            let (alone, threads) = least(rt, policy, row, inputs, fresh)?;
+            let name = row.name();
+            println!(rt; "chunks\t{name}/{memory}/{size}\tone thread\t{alone}")?;
+            println!(rt; "chunks\t{name}/{memory}/{size}\tthreads\t{threads}")?;
         }
     }
     Ok(())
+}
+
+/// Prints the rows of the kernels whose names begin with these words, for each number of items. Whether there are such kernels.
+pub fn rows<R: Alloc<A = Global> + Clock + Print>(
+    rt: &R,
+    policy: &impl Execution,
+    words: &str,
+) -> io::Result<bool> {
+    let mut any = false;
+    for size in SIZES {
+        let inputs = Inputs::new(rt.alloc(), size)?;
+        for row in &ROWS {
+            if row.name().starts_with(words) {
+                print_rows(rt, policy, *row, size, &inputs)?;
+                any = true;
+            }
+        }
+    }
+    Ok(any)
 }

@@ -1,10 +1,12 @@
 //! The benchmark program. `bench kernels` times the kernels, and prints a line for each row:
 //! `kernels TAB row TAB cvl TAB nanoseconds an item`, where a row is a kernel and how many items it runs over.
-//! `bench shared` times threads that share a machine, as `rates.rt` and `latencies.rt` say, and beside them a book by itself, as `alone.rt`
-//! says. `bench shared WORDS` prints the rows of those loads alone whose name begins so, as `bench shared "T=4 len=16"`. `bench batch` times batches, as `batch.rt` says,
-//! and how they are planned, as `plans.rt` says. `bench chunks` times kernels in threads, as `chunks.rt` says, and `bench over`
-//! results that are written over an operand, as `over.rt` says, and `bench blocks` blocks of calls on a book, as `blocks.rt` says. Without arguments it prints its usage; so it does for other
-//! arguments, and for words with which no load's name begins, with status 2.
+//! `bench shared` times threads that share a machine, as `rates.rt` and `latencies.rt` say, and beside them a book by itself, as
+//! `alone.rt` says. `bench shared WORDS` prints the rows of those loads alone whose name begins so, as `bench shared "T=4 len=16"`.
+//! `bench batch` times batches, as `batch.rt` says, and how they are planned, as `plans.rt` says. `bench chunks` times kernels in
+//! threads, as `chunks.rt` says, and `bench chunks WORDS` those alone whose name begins so, as `bench chunks scan`. `bench over`
+//! times results that are written over an operand, as `over.rt` says, and `bench blocks` blocks of calls on a book, as `blocks.rt`
+//! says. Without arguments it prints its usage; so it does for other arguments, and for words with which no name begins, with
+//! status 2.
 #![tactic(auto)]
 
 mod alone;
@@ -34,7 +36,7 @@ use std::rt::Clock;
 use std::thread::Threads;
 use std::{env, io};
 
-const USAGE: &str = "usage: bench kernels|shared [WORDS]|batch|blocks|chunks|over";
+const USAGE: &str = "usage: bench kernels|shared [WORDS]|batch|blocks|chunks [WORDS]|over";
 
 /// How many items the kernels run over.
 const SIZES: [u32; 4] = [1_000, 32_000, 1_000_000, 16_000_000];
@@ -64,7 +66,8 @@ enum Asked {
     Shared(String),
     Batch,
     Blocks,
-    Chunks,
+    /// The rows of the kernels in threads whose names begin so.
+    Chunks(String),
     Over,
     Unknown,
 }
@@ -85,7 +88,8 @@ fn read_arguments(rt: &HostRuntime) -> io::Result<Asked> {
         ("shared", Some(words)) => Asked::Shared(words),
         ("batch", None) => Asked::Batch,
         ("blocks", None) => Asked::Blocks,
-        ("chunks", None) => Asked::Chunks,
+        ("chunks", None) => Asked::Chunks(String::new(rt.alloc())),
+        ("chunks", Some(words)) => Asked::Chunks(words),
         ("over", None) => Asked::Over,
         _ => Asked::Unknown,
     })
@@ -110,9 +114,11 @@ fn main(rt: HostRuntime) -> io::Result<ExitCode> {
             batch::rows(&rt)?;
         }
         Asked::Blocks => blocks::rows(&rt)?,
-        Asked::Chunks => {
+        Asked::Chunks(words) => {
             let counted = Counted::new(rt);
-            chunks::rows(counted.runtime(), &counted)?;
+            if !chunks::rows(counted.runtime(), &counted, &words)? {
+                return refuse(counted.runtime());
+            }
         }
         Asked::Over => over::rows(&rt)?,
         Asked::Usage => println!(rt; "{USAGE}")?,
