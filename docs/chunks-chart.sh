@@ -9,8 +9,8 @@ if [ $# -ne 1 ] || [ ! -r "$1" ]; then
 fi
 LC_ALL=C awk -F'\t' '
 BEGIN {
-    kernels = split("add select scan segscan reduce segreduce gather pack distribute index", kernel, " ")
-    split("add,select,scan,scan by segments,reduce,reduce by segments,gather,pack,distribute,index", name, ",")
+    kernels = split("add select scan segscan reduce segreduce gather permute pack distribute index", kernel, " ")
+    split("add,select,scan,scan by segments,reduce,reduce by segments,gather,permute,pack,distribute,index", name, ",")
     sizes = split("1000000 16000000", size, " ")
     split("1,000,000 items;16,000,000 items", many, ";")
     memories = split("kept fresh", memory, " ")
