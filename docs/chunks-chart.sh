@@ -59,7 +59,7 @@ function head(  m) {
     describe()
     print "  <rect x=\"1\" y=\"1\" width=\"1098\" height=\"458\" rx=\"10\" fill=\"#ffffff\" stroke=\"#8c959f\"/>"
     write(24, 34, "font-size=\"16\" font-weight=\"bold\"", "Kernels in threads, beside one thread")
-    write(24, 56, "fill=\"#57606a\"", "how many times as fast, of the least times of a run on four processors; 1 is level")
+    write(24, 56, "fill=\"#57606a\"", "how many times as fast, of the least times of three runs on four processors; 1 is level")
     for (m = 1; m <= memories; m++) {
         box(24 + (m - 1) * 260, 72, 14, 14, fill[m])
         write(46 + (m - 1) * 260, 84, "", label[m])

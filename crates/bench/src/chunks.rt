@@ -27,8 +27,8 @@ const TURNS: u32 = 5;
 /// How many runs a turn has that are timed.
 const IN_A_ROW: u32 = 6;
 
-/// How many runs come before those: they find the caches as the other way left them, whose threads spread the operands over the
-/// caches of all processors. One thread then reads a million items faster than it ever does by itself.
+/// How many runs come before those. One thread is faster than by itself where it comes first behind threads, over a million items by
+/// up to a third: perhaps since these leave the operands in the caches of all processors.
 const NOT_TIMED: u32 = 3;
 
 /// A kernel over one of the inputs, or a test of an index.
