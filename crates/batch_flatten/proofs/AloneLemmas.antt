@@ -20,7 +20,7 @@ asked-once r = record { callers_are = refl; each = each }
     each zero k job there = record { there = there; first = refl }
     each (suc i) k job there = absurd cc
 
-runs-back : (old new : BookState) (k : ℕ) (job : Job) (o : Outcome) → RunsJob old new k job o → RunsBack old new k (handed_back job) o
+pub runs-back : (old new : BookState) (k : ℕ) (job : Job) (o : Outcome) → RunsJob old new k job o → RunsBack old new k (handed_back job) o
 runs-back old new k (One call) o runs = runs
 runs-back old new k (Many calls) o runs = runs
 

@@ -124,7 +124,7 @@ word-of-back : (job : Job) (c : Call) → handed_back job ≡ Refused c → word
 word-of-back (One d) c is = let same : d ≡ c = cc in ap (λ (z : Call). (task_of z).word) same
 word-of-back (Many calls) c is = absurd cc
 
-tasks-of-back : (job : Job) → map task_of (calls_of job) ≡ tasks_back (handed_back job)
+pub tasks-of-back : (job : Job) → map task_of (calls_of job) ≡ tasks_back (handed_back job)
 tasks-of-back (One call) = refl
 tasks-of-back (Many calls) = refl
 

@@ -16,3 +16,5 @@ pub mod TurnLemmas
 pub mod CallerLemmas
 pub mod AloneLemmas
 pub mod SizeLemmas
+pub mod AlikeLemmas
+pub mod AlikeTurns

@@ -168,7 +168,7 @@ slice_get-callers [] i r there = absurd cc
 slice_get-callers (x ∷ rs) zero r there = let same : x ≡ r = cc in ap (λ (z : Request). Some z.caller) same
 slice_get-callers (x ∷ rs) (suc i) r there = slice_get-callers rs i r there
 
-caller_here : (rs : List Request) (callers : List ℕ) (i : ℕ) (r : Request) → AreAskedBy rs callers → i < length rs → slice_get rs i ≡ Some r → slice_index callers i ≡ r.caller
+pub caller_here : (rs : List Request) (callers : List ℕ) (i : ℕ) (r : Request) → AreAskedBy rs callers → i < length rs → slice_get rs i ≡ Some r → slice_index callers i ≡ r.caller
 caller_here rs callers i r by lt there =
     slice_index-at callers i r.caller (sym (slice_get-take callers (length rs) i lt) ∙ ap (λ (l : List ℕ). slice_get l i) by.callers_are ∙ slice_get-callers rs i r there)
 

@@ -51,7 +51,7 @@ has-work m seen os lent places words turns works position turn work same are lt 
     (taken (runs_kernel (word_at words position)) (work_at seen lent places position)
     (subst (λ t. IsPrepared (runs_kernel (word_at words position)) (work_at seen lent places position) t (slice_get works position)) is (prepared position (omega arith) lt)))
 
-kept_work : (old new : State) (was : Outcome) (later : Option Outcome) → TurnsMemory old new was → ((o : Outcome) → later ≡ Some o → jobs_clash (tasks_back was) (tasks_back o) ≡ false) → work_back new later ≡ work_back old later
+pub kept_work : (old new : State) (was : Outcome) (later : Option Outcome) → TurnsMemory old new was → ((o : Outcome) → later ≡ Some o → jobs_clash (tasks_back was) (tasks_back o) ≡ false) → work_back new later ≡ work_back old later
 kept_work old new was None turned apart = refl
 kept_work old new was (Some (Answered place reply)) turned apart = refl
 kept_work old new was (Some (AnsweredBlock place replies)) turned apart = refl

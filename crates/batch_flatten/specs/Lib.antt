@@ -4,6 +4,7 @@ pub mod Plans
 pub mod Targets
 pub mod BlockPlans
 pub mod Places
+pub mod Alike
 pub mod Batches
 pub mod Serving
 pub mod Joining

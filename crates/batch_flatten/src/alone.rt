@@ -14,13 +14,14 @@ ghost use Rattle.batch_flatten.specs.Counts.{RisesBy, kernel_bound, kernels_of, 
 
 use crate::ran::Ran;
 use crate::roll::{call_count, handed_back};
-use call_history::{Book, Job, Outcome, Request};
+use call_history::{Book, Job, Outcome, Request, Unserved};
 use cvl_text::Call;
 use scan_kernels::{Execution, Meter};
 use std::alloc::Global;
 
-/// Runs a call behind the history, and puts what became of it behind the outcomes. It is written where it stays.
-fn run_call_onto(
+/// Runs a call that a history keeps whole behind it, and puts what became of it behind the outcomes.
+#[inline(never)]
+fn run_whole_onto(
     execution: &impl Execution,
     alloc: Global,
     meter: &mut Meter,
@@ -35,11 +36,43 @@ fn run_call_onto(
     ensures ran { (outcome : Outcome) × (outcomes.new.items ≡ outcomes.old.items ++ outcome ∷ [])
         × (TakesNoMemory (task_of call).word → HasAnswer outcome) × RunsJob book.old book.new caller (Job.One call) outcome }
     ensures counted { RisesBy (kernels_of (runs_kernel (task_of call).word)) meter.old meter.new }
+    ensures one_space { book.old.spaces ≤ book.new.spaces + 1 }
     ensures spaces { vec_capacity outcomes.new ≡ vec_capacity outcomes.old }
 {
-    match book.run_metered(execution, alloc, meter, caller, call) {
+    let outcome = match book.run_metered(execution, alloc, meter, caller, call) {
+        Ok((place, reply)) => Outcome::Answered { place, reply },
+        Err((call, _)) => Outcome::Refused(call),
+    };
+    outcomes.push_reserved(outcome);
+}
+
+/// Runs a call behind the history, and puts what became of it behind the outcomes. It is written where it stays, and the call is
+/// not moved if a history keeps it in few bytes.
+#[inline(always)]
+pub(crate) fn run_call_onto(
+    execution: &impl Execution,
+    alloc: Global,
+    meter: &mut Meter,
+    book: &mut Book,
+    caller: u64,
+    call: Call,
+    outcomes: &mut Vec<Outcome>,
+)
+    requires caller { caller < caller_limit }
+    requires space { 0 < book.old.spaces }
+    requires room { vec_len outcomes.old < vec_capacity outcomes.old }
+    ensures ran { (outcome : Outcome) × (outcomes.new.items ≡ outcomes.old.items ++ outcome ∷ [])
+        × (TakesNoMemory (task_of call).word → HasAnswer outcome) × RunsJob book.old book.new caller (Job.One call) outcome }
+    ensures counted { RisesBy (kernels_of (runs_kernel (task_of call).word)) meter.old meter.new }
+    ensures one_space { book.old.spaces ≤ book.new.spaces + 1 }
+    ensures spaces { vec_capacity outcomes.new ≡ vec_capacity outcomes.old }
+{
+    match book.run_metered_lent(execution, alloc, meter, caller, &call) {
         Ok((place, reply)) => outcomes.push_reserved(Outcome::Answered { place, reply }),
-        Err((call, _)) => outcomes.push_reserved(Outcome::Refused(call)),
+        Err(Unserved::OutOfMemory) => outcomes.push_reserved(Outcome::Refused(call)),
+        Err(Unserved::Whole(())) => {
+            run_whole_onto(execution, alloc, meter, book, caller, call, outcomes);
+        }
     }
 }
 

@@ -51,7 +51,7 @@ fn is_open(turn: Turn) -> bool
 
 /// Whether two words are one.
 #[tactic(auto, using(cvl_text::proofs::SameWords::words_Decide))]
-fn is_same_word(a: Word, b: Word) -> bool
+pub(crate) fn is_same_word(a: Word, b: Word) -> bool
     ensures { IsTrue result ↔ (a ≡ b) }
 {
     a == b

@@ -5,16 +5,20 @@
 //! for Data-Parallel Computing, 1990). A block takes its turn as one and is never joined.
 #![tactic(auto)]
 
+mod alike;
 mod alone;
 mod block_plan;
 mod clash;
 mod joining;
 pub mod laws;
+mod made;
+mod made_turns;
 mod plan;
 mod planning;
 mod ran;
 mod roll;
 mod running;
+mod singly;
 mod targets;
 mod turn;
 mod wave;

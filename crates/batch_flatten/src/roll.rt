@@ -45,7 +45,7 @@ fn callers_of(requests: &[Request]) -> [u8; BATCH_LIMIT]
 }
 
 /// The word of a single call; of a block one that runs no kernel.
-fn job_word(job: &Job) -> Word
+pub(crate) fn job_word(job: &Job) -> Word
     ensures { result ≡ word_of_job job.now }
 {
     match job {
@@ -67,7 +67,7 @@ fn words_of(requests: &[Request]) -> [Word; BATCH_LIMIT]
 }
 
 /// How many waves the first requests, so many, have.
-fn wave_count(waves: &[u8; BATCH_LIMIT], count: usize) -> u8
+pub(crate) fn wave_count(waves: &[u8; BATCH_LIMIT], count: usize) -> u8
     requires count { count ≤ BATCH_LIMIT }
     requires below { AreBelow BATCH_LIMIT waves.now }
     ensures { result ≡ count_of (take count waves.now) }

@@ -13,6 +13,7 @@ ghost use Rattle.batch_flatten.specs.Counts.{RisesBy, count_back, kernel_bound, 
 ghost use Rattle.batch_flatten.specs.Joining.{AreNoted};
 ghost use Rattle.batch_flatten.specs.Serving.{AnswersSure, AreApart, AreAskedBy, AreLawful, Serving, WereBack};
 
+use crate::alike::serve_alike;
 use crate::alone::serve_alone;
 use crate::plan::BATCH_LIMIT;
 use crate::ran::Ran;
@@ -149,8 +150,10 @@ pub fn run_batch(
     ensures outcome_spaces { vec_capacity outcomes.new ≡ vec_capacity outcomes.old }
 {
     if requests.len() < 2 {
-        serve_alone(execution, alloc, book, requests, outcomes, meter)
-    } else {
-        serve_many(execution, alloc, book, requests, outcomes, meter)
+        return serve_alone(execution, alloc, book, requests, outcomes, meter);
+    }
+    match serve_alike(execution, alloc, book, requests, outcomes, meter) {
+        Some(ran) => ran,
+        None => serve_many(execution, alloc, book, requests, outcomes, meter),
     }
 }

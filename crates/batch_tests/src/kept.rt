@@ -9,7 +9,7 @@ use scan_kernels::DEFAULT_CHUNK;
 const BEFORE: &str = "a = dis_vuz 3 1500\nb = dis_vuz 4 1500\nc = dis_vuz 5 1200\nf = les_wuz a b\n\
     x0 = dis_vuz 0 1500\nx1 = dis_vuz 0 1200\nx2 = dis_vuz 0 1500\nu = z 1\nv = z 2 3\n";
 
-/// The calls of a batch, and how many bytes are kept for joined runs when it is done: what it replaced, of 1,024 items and more.
+/// The calls of a batch, and how many bytes are kept for joined runs when it is done: what was replaced, and no result took.
 const BATCHES: &[(&str, usize)] = &[
     (
         "x0 = add_wuz a b\nx1 = add_wuz a b\nx2 = add_wuz c c\nx3 = add_wuz a b",
@@ -21,7 +21,8 @@ const BATCHES: &[(&str, usize)] = &[
     ),
     ("y0 = not_wub f\ny1 = not_wub f", 45_600),
     ("y0 = not_wub y1\ny1 = not_wub f\ny2 = not_wub f", 48_600),
-    ("u = cpy_wuz v\nv = cpy_wuz v", 48_600),
+    ("u = cpy_wuz v\nv = cpy_wuz v", 48_624),
+    ("u = cpy_wuz v\nv = cpy_wuz v", 48_640),
 ];
 
 /// How many bytes the book keeps for joined runs.

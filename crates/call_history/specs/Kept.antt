@@ -25,3 +25,7 @@ call_of (kepts.Whole place) = calls.Get []
 -- it is the call, and does not lie whole
 abbrev pub IsBrief : Call → Kept → Type 0
 IsBrief call kept = (call_of kept ≡ call) × (is_whole kept ≡ false)
+
+-- the call can be kept so that it does not lie whole
+abbrev pub MayBeBrief : Call → Type 0
+MayBeBrief call = (kept : Kept) × IsBrief call kept

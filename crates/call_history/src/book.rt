@@ -1,4 +1,4 @@
-ghost use Rattle.std.specs.Prelude.{◌≡◌, ◌==◌, ◌+◌, ◌<◌, ◌≤◌, ◌∷◌, ◌++◌, [], length, map, slice_get, Some, IfOk, IfErr, OnOk, OnErr, IsOk, IsTrue};
+ghost use Rattle.std.specs.Prelude.{◌≡◌, ◌==◌, ◌+◌, ◌<◌, ◌≤◌, ◌∷◌, ◌++◌, [], length, map, slice_get, false, Err, Some, IfOk, IfErr, OnOk, OnErr, IsOk, IsTrue};
 ghost use Rattle.vector_memory.specs.States.{IsLawfulRoom, MayChange, bounds_in};
 ghost use Rattle.vector_memory.specs.Editions.{item_limit};
 ghost use Rattle.cvl_text.specs.Tasks.{task_of};
@@ -10,13 +10,15 @@ ghost use Rattle.call_history.specs.Books.{memory_of};
 ghost use Rattle.call_history.specs.Blocks.{RisesBy, Whole, block_entries, block_limit, metered};
 ghost use Rattle.call_history.specs.Callers.{AreTickets, IsTicketed, HasLawfulCallers, next_before, next_entry};
 ghost use Rattle.call_history.specs.Refs.{entry_of};
-ghost use Rattle.call_history.specs.Works.{IsWork};
+ghost use Rattle.call_history.specs.Kept.{MayBeBrief, call_of, is_whole};
+ghost use Rattle.call_history.specs.Works.{HandsBack, IsWork, MayWantMemory};
 
 use crate::audit::{holds_the_same, replayed};
 use crate::block::{enter_each, run_each};
 use crate::entry::EntryRef;
+use crate::kept::{Kept, brief};
 use crate::log::Log;
-use crate::work::Work;
+use crate::work::{Unserved, Work};
 use cvl_calls::{Product, Shelves, Spare, apply_joined, step_with, target};
 use cvl_text::{Call, Reply};
 use scan_kernels::{Execution, Meter};
@@ -82,7 +84,36 @@ pub(crate) fn enter(
     place
 }
 
+/// Writes a call that is kept in few bytes behind the entries, with the caller's next ticket, and answers its place.
+#[inline(always)]
+fn enter_brief(
+    log: &mut Log,
+    tickets: &mut Box<[u64; CALLER_LIMIT]>,
+    caller: u64,
+    kept: Kept,
+) -> u64
+    requires caller { caller < CALLER_LIMIT }
+    requires brief { is_whole kept ≡ false }
+    requires space { 0 < log.old.spaces }
+    requires counted { AreTickets tickets.old.value log.old.entries }
+    requires ticketed { IsTicketed log.old.entries }
+    requires lawful_callers { HasLawfulCallers log.old.entries }
+    ensures place { result ≡ length log.old.entries }
+    ensures entries { log.new.entries ≡ log.old.entries ++ next_before log.old.entries caller (call_of kept) 0 ∷ [] }
+    ensures one_space { log.old.spaces ≤ log.new.spaces + 1 }
+    ensures counted { AreTickets tickets.new.value log.new.entries }
+    ensures ticketed { IsTicketed log.new.entries }
+    ensures lawful_callers { HasLawfulCallers log.new.entries }
+{
+    let before = log.len();
+    let ticket = tickets[caller as usize];
+    log.push_brief(caller as u8, ticket, kept);
+    tickets[caller as usize] = ticket + 1;
+    before as u64
+}
+
 /// Stores or says what a call made of the memory in a joined run.
+#[inline(always)]
 fn done(
     spare: &mut Spare,
     memory: &mut Memory,
@@ -93,6 +124,7 @@ fn done(
     requires may_change { MayChange memory.old }
     ensures ok { IfOk result (λ reply. stepped memory.old (task_of call.now)
         ≡ record { memory = memory.new; answer = answer_of reply }) }
+    ensures grows { OnErr result (MayWantMemory memory.old (task_of call.now)) }
     ensures err { OnErr result (memory.new ≡ memory.old) }
 {
     memories_are_lawful(memory);
@@ -225,6 +257,10 @@ impl Book {
         ensures spaces_kept { OnErr result (self.old.spaces ≤ self.new.spaces) }
 
         ensures bounds { self.new.bounds ≡ self.old.bounds }
+
+        // In space that was reserved it is refused only where its value is to be stored and has room.
+        ensures lacks { 0 < self.old.spaces →
+            OnErr result (MayWantMemory (memory_of self.old) (task_of call)) }
     {
         let Ok(()) = self.log.reserve(1) else {
             return Err((call, OutOfMemory));
@@ -233,6 +269,95 @@ impl Book {
             return Err((call, OutOfMemory));
         };
         let place = enter(&mut self.log, &mut self.tickets, caller, call, 0);
+        Ok((place, reply))
+    }
+
+    /// `run_metered` of a call that is lent, in space that is left: it is entered as a history keeps it in few bytes. A call that a
+    /// history keeps whole is not run, and for want of memory it stands in no history.
+    #[inline(always)]
+    pub fn run_metered_lent(
+        &mut self,
+        execution: &impl Execution,
+        alloc: Global,
+        meter: &mut Meter,
+        caller: u64,
+        call: &Call,
+    ) -> Result<(u64, Reply), Unserved<()>>
+        requires caller { caller < CALLER_LIMIT }
+        requires space { 0 < self.old.spaces }
+        ensures history { OnOk result (self.new.history
+            ≡ self.old.history ++ next_entry self.old.history caller call.now ∷ []) }
+        ensures place { IfOk result (λ answer. answer.0 ≡ length self.old.history) }
+        ensures reply { IfOk result (λ answer. answer_of answer.1 ≡ reply_after self.old.bounds self.old.history call.now) }
+        ensures memory { OnOk result (memory_of self.new ≡ (stepped (memory_of self.old) (task_of call.now)).memory) }
+        ensures one_space { OnOk result (self.old.spaces ≤ self.new.spaces + 1) }
+
+        ensures unchanged { OnErr result (self.new.history ≡ self.old.history) }
+        ensures spaces_kept { OnErr result (self.old.spaces ≤ self.new.spaces) }
+
+        ensures bounds { self.new.bounds ≡ self.old.bounds }
+        ensures counted { CountsStep (runs_on (memory_of self.old) (task_of call.now)) result meter.old meter.new }
+        ensures whole { result ≡ Err (Unserved.Whole tt) → meter.new ≡ meter.old }
+
+        // Memory is wanted only where it is for a step.
+        ensures lacks { result ≡ Err Unserved.OutOfMemory → MayLackMemory (memory_of self.old) (task_of call.now) }
+        ensures answered { TakesNoMemory (task_of call.now).word → result ≡ Err Unserved.OutOfMemory → ⊥ }
+    {
+        let Some(kept) = brief(call) else {
+            return Err(Unserved::Whole(()));
+        };
+        let Ok(reply) = step_with(
+            execution,
+            alloc,
+            meter,
+            &mut self.spare,
+            &mut self.memory,
+            call,
+        ) else {
+            return Err(Unserved::OutOfMemory);
+        };
+        Ok((
+            enter_brief(&mut self.log, &mut self.tickets, caller, kept),
+            reply,
+        ))
+    }
+
+    /// `run_with` of a call that is lent, in space that is left: it is entered as a history keeps it in few bytes. The work of a call
+    /// that a history keeps whole comes back, and for want of memory it is gone; then the call stands in no history.
+    #[inline(always)]
+    pub fn run_lent(
+        &mut self,
+        caller: u64,
+        call: &Call,
+        work: Work,
+    ) -> Result<(u64, Reply), Unserved<Work>>
+        requires caller { caller < CALLER_LIMIT }
+        requires space { 0 < self.old.spaces }
+        requires work { IsWork work (work_on (memory_of self.old) (task_of call.now)) }
+        ensures history { OnOk result (self.new.history
+            ≡ self.old.history ++ next_entry self.old.history caller call.now ∷ []) }
+        ensures place { IfOk result (λ answer. answer.0 ≡ length self.old.history) }
+        ensures reply { IfOk result (λ answer. answer_of answer.1 ≡ reply_after self.old.bounds self.old.history call.now) }
+        ensures memory { OnOk result (memory_of self.new ≡ (stepped (memory_of self.old) (task_of call.now)).memory) }
+        ensures one_space { OnOk result (self.old.spaces ≤ self.new.spaces + 1) }
+
+        ensures back { IfErr result (HandsBack work) }
+        ensures brief { result ≡ Err Unserved.OutOfMemory → MayBeBrief call.now }
+        ensures unchanged { OnErr result (self.new.history ≡ self.old.history) }
+        ensures spaces_kept { OnErr result (self.old.spaces ≤ self.new.spaces) }
+
+        ensures bounds { self.new.bounds ≡ self.old.bounds }
+
+        // Memory is wanted only where its value is to be stored and has room.
+        ensures lacks { result ≡ Err Unserved.OutOfMemory → MayWantMemory (memory_of self.old) (task_of call.now) }
+    {
+        let Some(kept) = brief(call) else {
+            return Err(Unserved::Whole(work));
+        };
+        let Ok(reply) = done(&mut self.spare, &mut self.memory, call, work) else {
+            return Err(Unserved::OutOfMemory);
+        };
+        let place = enter_brief(&mut self.log, &mut self.tickets, caller, kept);
         Ok((place, reply))
     }
 

@@ -103,6 +103,7 @@ fn numbered(call: &Call) -> Option<Kept>
 }
 
 /// The call in few bytes, if it has at most three names and numbers, each name is short, and it has no items of its own.
+#[inline(always)]
 pub(crate) fn brief(call: &Call) -> Option<Kept>
     ensures { IfSome result (IsBrief call.now) }
 {

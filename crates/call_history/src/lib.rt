@@ -17,4 +17,4 @@ mod work;
 pub use book::{BLOCK_LIMIT, Book, CALLER_LIMIT};
 pub use entry::{CallRef, Entry, EntryRef};
 pub use request::{Job, Outcome, Request};
-pub use work::Work;
+pub use work::{Unserved, Work};

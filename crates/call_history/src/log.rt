@@ -1,8 +1,9 @@
 //! The entries of a history as they lie in memory: each call in few bytes where it can be, and else whole, beside the others.
 
-ghost use Rattle.std.specs.Prelude.{◌≡◌, ◌+◌, ◌++◌, ◌^◌, ◌<◌, ◌≤◌, ◌∷◌, [], List, length, vec_len, vec_capacity, slice_get, Some, OnOk, IsOk};
+ghost use Rattle.std.specs.Prelude.{◌≡◌, ◌+◌, ◌++◌, ◌^◌, ◌<◌, ◌≤◌, ◌∷◌, [], List, length, vec_len, vec_capacity, slice_get, false, Some, OnOk, IsOk};
 ghost use Rattle.cvl_text.specs.declared.call.Call.{Call as CallValue};
 ghost use Rattle.call_history.specs.History.{entry_before};
+ghost use Rattle.call_history.specs.Kept.{call_of, is_whole};
 ghost use Rattle.call_history.specs.Logs.{call_in, IsThere};
 ghost use Rattle.call_history.specs.Refs.{call_shown, entry_of};
 
@@ -103,6 +104,22 @@ impl Log {
         self.rows.push_reserved(Row {
             caller,
             rest,
+            ticket,
+            kept,
+        });
+    }
+
+    /// Writes an entry behind the others, of a call that is kept in few bytes.
+    #[inline(always)]
+    pub(crate) fn push_brief(&mut self, caller: u8, ticket: u64, kept: Kept)
+        requires space { 0 < self.old.spaces }
+        requires brief { is_whole kept ≡ false }
+        ensures entries { self.new.entries ≡ self.old.entries ++ entry_before caller ticket (call_of kept) 0 ∷ [] }
+        ensures spaces { self.old.spaces ≤ self.new.spaces + 1 }
+    {
+        self.rows.push_reserved(Row {
+            caller,
+            rest: 0,
             ticket,
             kept,
         });

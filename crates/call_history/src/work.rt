@@ -8,3 +8,12 @@ pub enum Work {
     Store(Value),
     Say(Reply),
 }
+
+/// Why a call that was lent did not run.
+#[derive(Debug, Drop)]
+pub enum Unserved<W> {
+    /// Memory was wanted.
+    OutOfMemory,
+    /// A history keeps such a call whole, so it has to be handed in itself. What was handed in with it comes back.
+    Whole(W),
+}

@@ -154,6 +154,7 @@ pub fn apply_with(
 
 /// `apply` of what a joined run made, and the vector of the value that was replaced is kept for the next of these. In a block there has
 /// to be a change left.
+#[inline(always)]
 pub fn apply_joined(
     spare: &mut Spare,
     memory: &mut Memory,

@@ -49,17 +49,18 @@ impl Shelves {
         }
     }
 
-    /// Makes room for vectors, unless there is. Where memory is wanted there is none.
+    /// Makes room for the first vectors. Where memory is wanted there is none.
+    #[inline(never)]
     fn open(&mut self, alloc: Global) {
-        if self.kinds.is_none() {
-            self.kinds = Box::new(alloc, Kinds::new(alloc)).ok();
-        }
+        self.kinds = Box::new(alloc, Kinds::new(alloc)).ok();
     }
 
     /// Keeps a vector of integers, if there is a place for it. Else it comes back.
-    #[inline(never)]
+    #[inline(always)]
     pub(crate) fn keep_ints(&mut self, vector: Vec<i64>) -> Result<(), Vec<i64>> {
-        self.open(*vector.allocator());
+        if self.kinds.is_none() {
+            self.open(*vector.allocator());
+        }
         match &mut self.kinds {
             Some(kinds) => kinds.keep_ints(vector),
             None => Err(vector),
@@ -67,9 +68,11 @@ impl Shelves {
     }
 
     /// Keeps a vector of truth values, if there is a place for it. Else it comes back.
-    #[inline(never)]
+    #[inline(always)]
     pub(crate) fn keep_bools(&mut self, vector: Vec<bool>) -> Result<(), Vec<bool>> {
-        self.open(*vector.allocator());
+        if self.kinds.is_none() {
+            self.open(*vector.allocator());
+        }
         match &mut self.kinds {
             Some(kinds) => kinds.keep_bools(vector),
             None => Err(vector),
@@ -149,6 +152,7 @@ impl Kinds {
     }
 
     /// Keeps a vector of integers, if there is a place for it. Else it comes back.
+    #[inline(always)]
     fn keep_ints(&mut self, vector: Vec<i64>) -> Result<(), Vec<i64>>
         ensures kept { OnOk result (self.new ≡ self.old + 8 * vec_capacity vector) }
         ensures back { IfErr result (λ v. v ≡ vector) }
@@ -158,6 +162,7 @@ impl Kinds {
     }
 
     /// Keeps a vector of truth values, if there is a place for it. Else it comes back.
+    #[inline(always)]
     fn keep_bools(&mut self, vector: Vec<bool>) -> Result<(), Vec<bool>>
         ensures kept { OnOk result (self.new ≡ self.old + vec_capacity vector) }
         ensures back { IfErr result (λ v. v ≡ vector) }

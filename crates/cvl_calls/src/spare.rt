@@ -4,7 +4,7 @@ ghost use Rattle.std.specs.Prelude.{◌≡◌, ◌+◌, ◌≤◌};
 ghost use Rattle.cvl_calls.specs.Spares.{kept_beside, kept_limit};
 
 use crate::shelves::Shelves;
-use scan_kernels::{Kept, Source, WORTH_A_PLACE};
+use scan_kernels::{Kept, Source};
 use std::alloc::{AllocError, Global};
 use std::marker::Model;
 use std::mem;
@@ -77,8 +77,8 @@ impl Spare {
         }
     }
 
-    /// Keeps the vector of a value that was replaced by what a joined run made, for the next of these, if it is large enough to be
-    /// worth it and there is a place. Else it is kept as any other.
+    /// Keeps the vector of a value that was replaced by what a joined run made, for the next of these, if it has space for an item
+    /// and there is a place. Else it is kept as any other.
     #[inline(always)]
     pub(crate) fn keep_for_joined(&mut self, value: Value) {
         match value {
@@ -90,7 +90,7 @@ impl Spare {
 
     #[inline(always)]
     fn shelve_ints(&mut self, vector: Vec<i64>) {
-        if vector.capacity() < WORTH_A_PLACE {
+        if vector.capacity() == 0 {
             self.keep(Value::Ints(vector));
             return;
         }
@@ -101,7 +101,7 @@ impl Spare {
 
     #[inline(always)]
     fn shelve_bools(&mut self, vector: Vec<bool>) {
-        if vector.capacity() < WORTH_A_PLACE {
+        if vector.capacity() == 0 {
             self.keep(Value::Bools(vector));
             return;
         }

@@ -14,7 +14,7 @@ use std::alloc::AllocError;
 
 /// From how many items on it repays to start threads that write over memory that is in use already: found by `bench chunks` on
 /// four processors, where the scan of one segment lost at half as many. What goes item by item gained half there.
-const WRITES_PAY: usize = 524_288;
+pub(crate) const WRITES_PAY: usize = 524_288;
 
 /// The size of the chunks in which a kernel makes so many items one by one, if it goes by chunks: where they pay, into memory that
 /// is in use already, since into fresh memory one thread is as fast as many, most of whose time goes into getting its pages.
@@ -266,12 +266,12 @@ pub(crate) fn joined_size(
     meter: &Meter,
     parts: usize,
     count: usize,
-    ready: bool,
+    pays: bool,
 ) -> Option<usize>
     ensures size { IfSome result (λ size. 0 < size) }
     ensures heeded { HeedsChunk meter.now count result }
 {
-    let size = chunk_size(execution, meter, count, ready && count >= WRITES_PAY)?;
+    let size = chunk_size(execution, meter, count, pays)?;
     let chunks = count.div_ceil(size).max(1);
     Some(parts.div_ceil(chunks).max(1))
 }

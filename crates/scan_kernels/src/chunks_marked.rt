@@ -1,13 +1,12 @@
 //! Whether the segments of an index hold all places of each chunk, as a list whose item for each chunk is told by itself.
 
-ghost use Rattle.std.specs.Prelude.{◌≡◌, ℕ, ◌+◌, ◌-◌, ◌*◌, ◌<◌, ◌≤◌, ◌^◌, length, sum, take, drop};
+ghost use Rattle.std.specs.Prelude.{◌≡◌, ℕ, ◌+◌, ◌-◌, ◌*◌, ◌<◌, ◌≤◌, ◌^◌, false, length, sum, take, drop, replicate};
 ghost use Rattle.scan_kernels.specs.Edges.{LiesIn};
 ghost use Rattle.scan_kernels.specs.Marked.{all_set, chunks_set, segmented_marks};
 
 use crate::edges::{FIRST, Segment, segment_of};
 use crate::marks::Marked;
 use crate::placewise::Placewise;
-use crate::segmentwise::{Segmentwise, write_from_segment};
 use crate::set_flags::all_set;
 
 /// So many places are marked at a time, on the stack.
@@ -68,9 +67,33 @@ fn is_block_marked(marked: Marked<'_>, segment: Segment, start: usize, block: &m
     requires within { start + length block.old ≤ length marked.index.now }
     ensures { result ≡ all_set (take (length block.old) (drop start (segmented_marks marked.entry.lengths.now marked.entry.index.now))) }
 {
-    marked.joins();
-    write_from_segment(&marked, segment, start, block);
+    block.fill(false);
+    mark_segments(marked, segment, start, block);
     all_set(block)
+}
+
+/// Marks the places that the segments hold, from one on, in a block where nothing is marked yet: one loop over the segments.
+#[inline(always)]
+fn mark_segments(marked: Marked<'_>, segment: Segment, start: usize, block: &mut [bool])
+    requires total { sum marked.lengths.now ≡ length marked.index.now }
+    requires segment { LiesIn marked.lengths.now start segment.number segment.begin }
+    requires blank { block.old ≡ replicate (length block.old) false }
+    requires within { start + length block.old ≤ length marked.index.now }
+    ensures { block.new ≡ take (length block.old) (drop start (segmented_marks marked.entry.lengths.now marked.entry.index.now)) }
+{
+    let Segment {
+        mut number,
+        mut begin,
+    } = segment;
+    let mut done = 0;
+    while done < block.len() {
+        let offset = start + done - begin;
+        let end = done + (marked.lengths[number] - offset).min(block.len() - done);
+        marked.mark_segment(number, begin, offset, &mut block[done..end]);
+        number += 1;
+        begin = start + end;
+        done = end;
+    }
 }
 
 /// Whether each segment is so short that it lies in two blocks at most, so that it is read twice at most.

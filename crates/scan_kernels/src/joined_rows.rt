@@ -7,12 +7,12 @@ ghost use Rattle.scan_kernels.specs.Metering.{CountsRun};
 ghost use Rattle.scan_kernels.specs.Parts.{parts_made};
 ghost use Rattle.scan_kernels.specs.RowLists.{AreAsLong};
 
-use crate::chunks::{joined_size, may_go_by_chunks};
+use crate::chunks::{WRITES_PAY, joined_size, may_go_by_chunks};
 use crate::execution::Execution;
 use crate::kernel::JoinedKernel;
 use crate::meter::Meter;
 use crate::rows::{BoolRow, IntRow, count_bools, count_ints};
-use crate::shelf::{Shelf, WORTH_A_PLACE};
+use crate::shelf::{Shelf, WORTH_A_SEARCH};
 use crate::source::Source;
 use segment_desc::OutOfMemory;
 use std::alloc::{AllocError, Global};
@@ -76,13 +76,14 @@ fn alike_ints(rows: &[IntRow<'_>], count: usize) -> usize
     alike
 }
 
-/// Whether a vector lies on the shelf for each row of many items. As few lie there, at most 65 rows are compared with all others.
+/// Whether a vector lies on the shelf for each row of so many items that one is sought; shorter rows need none. As few lie there, at most
+/// 65 rows are compared with all others.
 fn lie_ready_ints(shelf: &Shelf<i64>, rows: &[IntRow<'_>]) -> bool
     requires { All FitInts rows.now }
 {
     for row in rows {
         let count = count_ints(*row);
-        if count >= WORTH_A_PLACE && shelf.full_ones(count) < alike_ints(rows, count) {
+        if count >= WORTH_A_SEARCH && shelf.full_ones(count) < alike_ints(rows, count) {
             return false;
         }
     }
@@ -107,8 +108,8 @@ fn chunked_ints<'a, P, K: IntKernel<'a, P>>(
     }
     let rows = int_rows(shelf.allocator(), kernel, parts)?;
     let total = total_ints(&rows);
-    let ready = lie_ready_ints(shelf, &rows);
-    let size = joined_size(execution, meter, rows.len(), total, ready)?;
+    let pays = total >= WRITES_PAY && lie_ready_ints(shelf, &rows);
+    let size = joined_size(execution, meter, rows.len(), total, pays)?;
     Some((rows, size))
 }
 
@@ -213,13 +214,14 @@ fn alike_bools(rows: &[BoolRow<'_>], count: usize) -> usize
     alike
 }
 
-/// Whether a vector lies on the shelf for each row of many items. As few lie there, at most 65 rows are compared with all others.
+/// Whether a vector lies on the shelf for each row of so many items that one is sought; shorter rows need none. As few lie there, at most
+/// 65 rows are compared with all others.
 fn lie_ready_bools(shelf: &Shelf<bool>, rows: &[BoolRow<'_>]) -> bool
     requires { All FitBools rows.now }
 {
     for row in rows {
         let count = count_bools(*row);
-        if count >= WORTH_A_PLACE && shelf.full_ones(count) < alike_bools(rows, count) {
+        if count >= WORTH_A_SEARCH && shelf.full_ones(count) < alike_bools(rows, count) {
             return false;
         }
     }
@@ -244,8 +246,8 @@ fn chunked_bools<'a, P, K: BoolKernel<'a, P>>(
     }
     let rows = bool_rows(shelf.allocator(), kernel, parts)?;
     let total = total_bools(&rows);
-    let ready = lie_ready_bools(shelf, &rows);
-    let size = joined_size(execution, meter, rows.len(), total, ready)?;
+    let pays = total >= WRITES_PAY && lie_ready_bools(shelf, &rows);
+    let size = joined_size(execution, meter, rows.len(), total, pays)?;
     Some((rows, size))
 }
 

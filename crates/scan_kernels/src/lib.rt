@@ -90,7 +90,7 @@ pub use rows::{BoolRow, IntRow};
 pub use scan::{scan_b, scan_z};
 pub use select::{select_b, select_z};
 pub use set_flags::{SetNumbers, number_set, set_numbers};
-pub use shelf::{Shelf, WORTH_A_PLACE};
+pub use shelf::Shelf;
 pub use source::{Kept, Source};
 pub use whole::{
     index_whole, reduce_whole_b, reduce_whole_z, repeat_b, repeat_z, scan_whole_b, scan_whole_z,

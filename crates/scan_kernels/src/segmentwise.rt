@@ -79,7 +79,7 @@ pub fn write_segments<T: Copy, L: Segmentwise<T>>(list: &L, start: usize, part: 
 
 /// Writes the items from a place on, where the segment is known in which the place lies.
 #[inline(always)]
-pub(crate) fn write_from_segment<T: Copy, L: Segmentwise<T>>(
+fn write_from_segment<T: Copy, L: Segmentwise<T>>(
     list: &L,
     segment: Segment,
     start: usize,

@@ -1,7 +1,7 @@
 //! Results in vectors that lie on a shelf: with space for as many items, for others, and for few.
 
 use crate::joined_parts::are_parts;
-use scan_kernels::{Meter, Shelf, Z1, run_joined_ints};
+use scan_kernels::{Meter, Sequential, Shelf, Z1, run_joined_ints};
 use std::alloc::Global;
 use std::process::Abort;
 
@@ -45,13 +45,37 @@ fn takes_what_lies_on_the_shelf(rt: HostRuntime) {
     }
 }
 
+/// What lies on the shelf, and for how many items it has space when results of 2, 0 and 3 items were made: one of few items takes
+/// the last vector if that has its length, and else none; one of no items takes none.
+const SHORT_SHELVES: &[(&[usize], usize)] = &[
+    (&[], 0),
+    (&[2], 0),
+    (&[3, 2], 0),
+    (&[2, 3], 2),
+    (&[3, 0, 2], 3),
+    (&[3, 2, 1_024], 1_029),
+];
+
+/// Makes these results, and looks at what is left on each shelf.
+fn few_items(rt: &impl Abort, alloc: Global, mut meter: Meter) {
+    let parts: [&[i64]; 3] = [&[0, 5], &[], &[1, 2, 3]];
+    let wanted: [&[i64]; 3] = [&[-1, -6], &[], &[-2, -3, -4]];
+    for &(lengths, left) in SHORT_SHELVES {
+        let mut shelf = shelf_of(rt, alloc, lengths);
+        let made = run_joined_ints(&Sequential, &mut shelf, &mut meter, Z1::Not, &parts);
+        assert!(rt; are_parts(&made.expect(rt, "memory"), &wanted));
+        assert!(rt; shelf.space() == left);
+    }
+}
+
 #[test]
-fn few_items_take_nothing_off(rt: HostRuntime) {
-    let mut meter = Meter::new();
-    let mut shelf = shelf_of(&rt, rt.alloc(), &[2]);
-    let made = run_joined_ints(&rt, &mut shelf, &mut meter, Z1::Not, &[[0, 5].as_slice()]);
-    assert!(rt; are_parts(&made.expect(&rt, "memory"), &[&[-1, -6]]));
-    assert!(rt; shelf.space() == 2);
+fn few_items_take_the_last(rt: HostRuntime) {
+    few_items(&rt, rt.alloc(), Meter::new());
+}
+
+#[test]
+fn few_items_by_chunks_take_the_last(rt: HostRuntime) {
+    few_items(&rt, rt.alloc(), Meter::with_chunk(1));
 }
 
 #[test]

@@ -1,6 +1,6 @@
 use Rattle.std.proofs.Common.{◌≡◌, length}
 use Rattle.scan_kernels.proofs.MarkedPlaces.{PartMarked}
-use Rattle.scan_kernels.proofs.marks.write_marks.Given as goal
+use Rattle.scan_kernels.proofs.marks.mark_blocks.Given as goal
 
 abbrev pub invariant-loop-rest : goal.invariant-loop-rest
 invariant-loop-rest l = record {

@@ -1,0 +1,60 @@
+-- A batch of alike calls in one wave: each request is for a single call of one word, and none reads the target of an earlier one.
+use Rattle.std.specs.Prelude.{◌≡◌, ◌≢◌, ◌⊎◌, ◌<◌, ◌≤◌, ◌+◌, All, false, List, [], ◌∷◌, length, map, Result, Ok, Some}
+use Rattle.std.specs.List.{AllByRecursion}
+use Rattle.scan_kernels.specs.Metering.{Metered}
+use Rattle.vector_memory.specs.States.{State}
+use Rattle.cvl_text.specs.declared.fault.Fault.{Fault}
+use Rattle.cvl_text.specs.declared.word.Word.{Word}
+use Rattle.cvl_calls.specs.declared.product.Product.{Product}
+use Rattle.cvl_calls.specs.Outcomes.{Effect, Frees, effect_of}
+use Rattle.call_history.specs.declared.request.Job.{Job}
+use Rattle.call_history.specs.declared.request.Job.TheVariants.{One, Many}
+use Rattle.call_history.specs.declared.request.Request.{Request}
+use Rattle.call_history.specs.declared.request.Outcome.{Outcome}
+use Rattle.call_history.specs.Books.{BookState}
+use Rattle.call_history.specs.Fits.{returned}
+use Rattle.batch_flatten.specs.declared.ran.Ran.{Ran}
+use Rattle.batch_flatten.specs.Waves.{asked, jobs_clash}
+use Rattle.batch_flatten.specs.Batches.{AnswersAllSure, ServesInOrder}
+use Rattle.batch_flatten.specs.Counts.{kernel_bound, wave_count, word_asked}
+use Rattle.batch_flatten.specs.Joining.{work_back}
+
+-- all requests are for single calls of this word, or the word is that of none
+abbrev pub AreOfWord : Word → List Request → Type 0
+AreOfWord word rs = All (λ r. word_asked r ≡ word) rs
+
+-- what the single call of a request makes of the memory; of a block it is never asked
+abbrev pub work_asked : State → Request → Result Effect Fault
+work_asked m r = work_back m (Some (returned r))
+
+-- the products are what the calls of the requests make of the memory, in their order
+abbrev pub AreMadeOf : State → List Request → List Product → Type 0
+AreMadeOf m rs products = map (λ p. Ok (effect_of p)) products ≡ map (work_asked m) rs
+
+-- no product is that a target goes
+abbrev pub FreeNothing : List Product → Type 0
+FreeNothing products = AllByRecursion (λ p. effect_of p ≢ Frees) products
+
+-- no later request reads the target of an earlier one
+abbrev pub AllApart : List Request → Type 0
+AllApart [] = Unit {0}
+AllApart (r ∷ rs) = AllByRecursion (λ s. jobs_clash (asked r) (asked s) ≡ false) rs × AllApart rs
+
+-- the job is a single call
+abbrev pub IsCall : Job → Type 0
+IsCall (One call) = Unit {0}
+IsCall (Many calls) = ⊥
+
+-- the request is for a single call
+abbrev pub IsForCall : Request → Type 0
+IsForCall r = IsCall r.job
+
+-- The requests were served in one wave, or the history could not be reserved and each job came back.
+pub record ServesAlike (old new : BookState) (requests : List Request) (outcomes : List Outcome) (ran : Ran) (before after : Metered) : Type 0 where
+  pub serves : ServesInOrder old.bounds old.history requests new.history outcomes
+  pub bounds : new.bounds ≡ old.bounds
+  pub waves : (ran.waves ≡ wave_count requests) ⊎ ((ran ≡ record { waves = 0; kernels = 0; singles = 0 }) × (new.history ≡ old.history) × (outcomes ≡ map returned requests))
+  pub sure : 0 < ran.waves → AnswersAllSure requests outcomes
+  pub bound : ran.kernels ≤ kernel_bound requests + ran.singles
+  pub few_singles : ran.singles ≤ length requests
+  pub kernels : after ≡ record before { runs = before.runs + ran.kernels }

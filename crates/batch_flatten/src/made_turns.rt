@@ -1,0 +1,128 @@
+//! The turns of requests whose products were made before, in the order of the requests. No call is moved that a history keeps in few
+//! bytes.
+
+ghost use Rattle.std.specs.Prelude.{◌≡◌, ◌≢◌, ◌+◌, ◌<◌, ◌≤◌, ◌∷◌, ◌++◌, [], Ok, length, vec_len, vec_capacity};
+ghost use Rattle.std.specs.List.{AllByRecursion, AllPairs, range_with_len};
+ghost use Rattle.cvl_text.specs.Tasks.{task_of};
+ghost use Rattle.cvl_calls.specs.Outcomes.{Frees, effect_of};
+ghost use Rattle.cvl_calls.specs.Steps.{work_on};
+ghost use Rattle.call_history.specs.declared.request.Job.{Job};
+ghost use Rattle.call_history.specs.declared.request.Outcome.{Outcome};
+ghost use Rattle.call_history.specs.Books.{memory_of};
+ghost use Rattle.call_history.specs.Callers.{caller_limit};
+ghost use Rattle.call_history.specs.Works.{IsWork};
+ghost use Rattle.batch_flatten.specs.Alike.{AllApart, AreMadeOf, FreeNothing, work_asked};
+ghost use Rattle.batch_flatten.specs.Batches.{RunsJob};
+ghost use Rattle.batch_flatten.specs.Joining.{work_back};
+ghost use Rattle.batch_flatten.specs.Serving.{Serving};
+ghost use Rattle.call_history.specs.Fits.{handed_back};
+
+use crate::roll::handed_back;
+use call_history::{Book, Job, Outcome, Request, Unserved, Work};
+use cvl_calls::Product;
+use cvl_text::Call;
+use std::alloc::Global;
+use std::mem;
+
+/// What a kernel made, as work.
+#[inline(always)]
+fn work_of(product: Product) -> Work
+    requires { effect_of product ≢ Frees }
+    ensures { IsWork result (Ok (effect_of product)) }
+{
+    match product {
+        Product::Store(value) => Work::Store(value),
+        Product::Reply(reply) => Work::Say(reply),
+        Product::Free => unreachable!(),
+    }
+}
+
+/// Takes the job out of a request, which is of no use any more.
+pub(crate) fn take_job(alloc: Global, request: &mut Request) -> Job
+    ensures { result ≡ request.old.job }
+{
+    mem::replace(&mut request.job, Job::Many(Vec::new(alloc)))
+}
+
+/// The turn of a call that a history keeps whole.
+#[inline(never)]
+fn run_whole(book: &mut Book, caller: u64, job: Job, work: Work, outcomes: &mut Vec<Outcome>)
+    requires caller { caller < caller_limit }
+    requires made { (call : Call) → job ≡ Job.One call → IsWork work (work_on (memory_of book.old) (task_of call)) }
+    requires room { vec_len outcomes.old < vec_capacity outcomes.old }
+    ensures ran { (outcome : Outcome) × (outcomes.new.items ≡ outcomes.old.items ++ outcome ∷ []) × RunsJob book.old book.new caller job outcome }
+    ensures one_space { book.old.spaces ≤ book.new.spaces + 1 }
+    ensures spaces { vec_capacity outcomes.new ≡ vec_capacity outcomes.old }
+{
+    match job {
+        Job::One(call) => match book.run_with(caller, call, work) {
+            Ok((place, reply)) => outcomes.push_reserved(Outcome::Answered { place, reply }),
+            Err((call, _)) => outcomes.push_reserved(Outcome::Refused(call)),
+        },
+        Job::Many(calls) => outcomes.push_reserved(Outcome::RefusedBlock(calls)),
+    }
+}
+
+/// The turn of a request whose product was made before. What became of it goes behind the outcomes.
+#[inline(always)]
+fn serve_one(
+    alloc: Global,
+    book: &mut Book,
+    request: &mut Request,
+    product: Product,
+    outcomes: &mut Vec<Outcome>,
+)
+    requires caller { request.old.caller < caller_limit }
+    requires made { work_asked (memory_of book.old) request.old ≡ Ok (effect_of product) }
+    requires stores { effect_of product ≢ Frees }
+    requires space { 0 < book.old.spaces }
+    requires room { vec_len outcomes.old < vec_capacity outcomes.old }
+    ensures ran { (outcome : Outcome) × (outcomes.new.items ≡ outcomes.old.items ++ outcome ∷ []) × RunsJob book.old book.new request.old.caller request.old.job outcome }
+    ensures one_space { book.old.spaces ≤ book.new.spaces + 1 }
+    ensures spaces { vec_capacity outcomes.new ≡ vec_capacity outcomes.old }
+{
+    let work = work_of(product);
+    let caller = request.caller;
+    let Job::One(call) = &request.job else {
+        unreachable!()
+    };
+    match book.run_lent(caller, call, work) {
+        Ok((place, reply)) => outcomes.push_reserved(Outcome::Answered { place, reply }),
+        Err(Unserved::OutOfMemory) => outcomes.push_reserved(handed_back(take_job(alloc, request))),
+        Err(Unserved::Whole(work)) => {
+            let job = take_job(alloc, request);
+            run_whole(book, caller, job, work, outcomes);
+        }
+    }
+}
+
+/// Serves requests whose products were made, one after the other, and empties their list.
+pub(crate) fn serve_made(
+    alloc: Global,
+    book: &mut Book,
+    requests: &mut Vec<Request>,
+    products: Vec<Product>,
+    outcomes: &mut Vec<Outcome>,
+)
+    requires lawful { AllByRecursion (λ r. r.caller < caller_limit) requests.old.items }
+    requires distinct { AllPairs (λ r s. r.caller ≢ s.caller) requests.old.items }
+    requires apart { AllApart requests.old.items }
+    requires made { AreMadeOf (memory_of book.old) requests.old.items products.items }
+    requires stores { FreeNothing products.items }
+    requires space { vec_len requests.old ≤ book.old.spaces }
+    requires empty { outcomes.old.items ≡ [] }
+    requires room { vec_len requests.old ≤ vec_capacity outcomes.old }
+    ensures serves { Serving book.old.bounds book.old.history requests.old.items (range_with_len 0 (length requests.old.items)) book.new.history outcomes.new.items }
+    ensures bounds { book.new.bounds ≡ book.old.bounds }
+    ensures requests { requests.new.items ≡ [] }
+    ensures request_spaces { vec_capacity requests.new ≡ vec_capacity requests.old }
+    ensures outcome_spaces { vec_capacity outcomes.new ≡ vec_capacity outcomes.old }
+{
+    // In a book no block is cut.
+    let _entries = book.len();
+    for product in products {
+        let place = outcomes.len();
+        serve_one(alloc, book, &mut requests[place], product, outcomes);
+    }
+    requests.clear();
+}
