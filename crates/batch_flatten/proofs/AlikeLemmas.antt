@@ -1,29 +1,20 @@
--- Alike calls in one wave: what is made of them is their work (`works-made`, `nothing-freed`), the requests are apart (`wave-apart-all`),
--- and the places of one wave are all places (`one-wave`).
+-- Alike calls in one wave: the requests are apart (`wave-apart-all`), and the places of one wave are all places (`one-wave`).
 use Rattle.std.proofs.Common.{◌≡◌, ◌==◌, ◌++◌, ℕ, zero, suc, ◌+◌, ◌-◌, ◌^◌, ◌<◌, ◌≤◌, ◌&&◌, ◌||◌, All, Bool, IfOk, IfSome, true, false, cond, List, [], ◌∷◌, length, map, filter, Some, Result, Ok, Err, refl, sym, ap, ◌∙◌, subst, arith, append-nil, slice_get, slice_index}
 use Rattle.std.specs.List.{AllByRecursion, list_any, range_with_len}
 use Rattle.std.specs.Result.{result_ok}
 use Rattle.std.proofs.lemmas.List.{length-map}
-use Rattle.std.proofs.lemmas.Simd.{map-map}
 use Rattle.scan_kernels.specs.Metering.{Metered}
-use Rattle.vector_memory.specs.States.{State}
-use Rattle.cvl_text.specs.declared.fault.Fault.{Fault}
 use Rattle.cvl_text.specs.declared.word.Word.{Word}
 use Rattle.cvl_text.specs.declared.word.Word.TheVariants as words
 use Rattle.cvl_text.specs.declared.word.AskWord.TheVariants as asks
 use Rattle.cvl_text.specs.Tasks.{Task, task_of}
-use Rattle.cvl_calls.specs.declared.judged.Judged.{Judged}
-use Rattle.cvl_calls.specs.declared.judged.Judged.TheVariants as judged
-use Rattle.cvl_calls.specs.declared.product.Product.{Product}
-use Rattle.cvl_calls.specs.Judging.{made, word_of}
-use Rattle.cvl_calls.specs.Outcomes.{Effect, Frees, effect_of}
 use Rattle.cvl_calls.specs.Runs.{TakesNoMemory, runs_kernel}
 use Rattle.call_history.specs.Blocks.{RisesBy}
 use Rattle.call_history.specs.declared.request.Job.{Job}
 use Rattle.call_history.specs.declared.request.Job.TheVariants.{One, Many}
 use Rattle.call_history.specs.declared.request.Request.{Request}
 use Rattle.call_history.specs.declared.request.Outcome.{Outcome}
-use Rattle.batch_flatten.specs.Alike.{AllApart, AreMadeOf, AreOfWord, FreeNothing, IsCall, IsForCall, work_asked}
+use Rattle.batch_flatten.specs.Alike.{AllApart, AreOfWord, IsCall, IsForCall}
 use Rattle.batch_flatten.specs.Waves.{asked, count_of, free_from, in_wave, is_barred, jobs_clash, wave_of, waves_behind, waves_of}
 use Rattle.batch_flatten.specs.Places.{places_of, places_of_first}
 use Rattle.batch_flatten.specs.Batches.{AnswersAllSure, NeedsNoMemory}
@@ -31,24 +22,6 @@ use Rattle.batch_flatten.specs.Counts.{different, different_kernels, is_one_of, 
 use Rattle.batch_flatten.proofs.ApartLemmas.{waves-apart}
 use Rattle.batch_flatten.proofs.PlaceLemmas.{length-range}
 use Rattle.batch_flatten.proofs.WaveLemmas.{length-waves_of, or_none}
-
--- only a call that runs no kernel makes that its target goes
-frees-alone : (j : Judged) → made j ≡ Frees → runs_kernel (word_of j) ≡ true → ⊥
-frees-alone judged.Free is kernel = cc
-frees-alone other is kernel = cc
-
-pub nothing-freed : (ps : List Product) (js : List Judged) (word : Word) → map effect_of ps ≡ map made js → All (λ j. word_of j ≡ word) js → runs_kernel word ≡ true → FreeNothing ps
-nothing-freed [] js word same alike kernel = tt
-nothing-freed (p ∷ ps) [] word same alike kernel = absurd cc
-nothing-freed (p ∷ ps) (j ∷ js) word same alike kernel =
-    let here : effect_of p ≡ made j = cc in
-    let rest : map effect_of ps ≡ map made js = cc in
-    ((λ frees. frees-alone j (sym here ∙ frees) (ap runs_kernel (alike 0 j (omega arith)) ∙ kernel)), nothing-freed ps js word rest (λ k d lt. alike (suc k) d (omega arith)) kernel)
-
-pub works-made : (m : State) (rs : List Request) (ps : List Product) (js : List Judged) → map effect_of ps ≡ map made js → map (λ j. Ok (made j)) js ≡ map (work_asked m) rs → AreMadeOf m rs ps
-works-made m rs ps js same works =
-    let ok : Effect → Result Effect Fault = λ e. Ok e in
-    sym (map-map ok effect_of ps) ∙ ap (map ok) same ∙ map-map ok made js ∙ works
 
 -- what is said of an answer is said of it as an option
 pub if-ok-some : {X E : Type 0} (r : Result X E) (P Q : X → Type 0) → ((x : X) → P x → Q x) → IfOk r P → IfSome (result_ok r) Q

@@ -10,8 +10,7 @@ use Rattle.vector_memory.specs.States.{State}
 use Rattle.cvl_text.specs.declared.call.Call.{Call}
 use Rattle.cvl_text.specs.Answers.{Answer, answer_of}
 use Rattle.cvl_text.specs.Tasks.{Task}
-use Rattle.cvl_calls.specs.declared.product.Product.{Product}
-use Rattle.cvl_calls.specs.Outcomes.{effect_of}
+use Rattle.cvl_calls.specs.Outcomes.{Effect}
 use Rattle.call_history.specs.declared.entry.Entry.{Entry}
 use Rattle.call_history.specs.declared.request.Job.{Job}
 use Rattle.call_history.specs.declared.request.Job.TheVariants.{One, Many}
@@ -23,7 +22,7 @@ use Rattle.call_history.specs.Books.{BookState, memory_of}
 use Rattle.call_history.specs.Callers.{caller_limit}
 use Rattle.call_history.specs.Fits.{returned}
 use Rattle.call_history.specs.History.{replay, replies_from}
-use Rattle.batch_flatten.specs.Alike.{AllApart, AreMadeOf, FreeNothing, work_asked}
+use Rattle.batch_flatten.specs.Alike.{AllApart, AreMadeOf, work_asked}
 use Rattle.batch_flatten.specs.Waves.{asked, count_of, jobs_clash, waves_of}
 use Rattle.batch_flatten.specs.Places.{IsOutside, places_of_first}
 use Rattle.batch_flatten.specs.Batches.{RunsCalls, RunsJob, ServesInOrder, StaysWith, tasks_back}
@@ -223,35 +222,34 @@ pub none-next : (rest : List Request) → length rest ≡ 0 → rest ≡ []
 none-next [] none = refl
 none-next (r ∷ rs) none = absurd (omega arith)
 
--- the first product is that of the first request that is to come
-pub record First (m : State) (product : Product) (products : List Product) (rest : List Request) : Type 0 where
+-- the first effect is that of the first request that is to come
+pub record First (m : State) (effect : Effect) (effects : List Effect) (rest : List Request) : Type 0 where
   pub request : Request
   pub others : List Request
   pub are : rest ≡ request ∷ others
-  pub work : work_asked m request ≡ Ok (effect_of product)
-  pub made : AreMadeOf m others products
+  pub work : work_asked m request ≡ Ok effect
+  pub made : AreMadeOf m others effects
 
-pub first-made : (m : State) (product : Product) (products : List Product) (rest : List Request) → AreMadeOf m rest (product ∷ products) → First m product products rest
-first-made m product products [] made = absurd cc
-first-made m product products (r ∷ rs) made = record { request = r; others = rs; are = refl; work = cc; made = cc }
+pub first-made : (m : State) (effect : Effect) (effects : List Effect) (rest : List Request) → AreMadeOf m rest (effect ∷ effects) → First m effect effects rest
+first-made m effect effects [] made = absurd cc
+first-made m effect effects (r ∷ rs) made = record { request = r; others = rs; are = refl; work = cc; made = cc }
 
--- turns of requests whose products were made: no request that is to come reads the target of another before it
-pub record UnderWay (bounds : Bounds) (line : List Entry) (requests now : List Request) (products : List Product) (book : BookState) (outcomes : List Outcome) : Type 0 where
+-- turns of requests of which this was made before: no request that is to come reads the target of another before it
+pub record UnderWay (bounds : Bounds) (line : List Entry) (requests now : List Request) (effects : List Effect) (book : BookState) (outcomes : List Outcome) : Type 0 where
   pub turns : Turns bounds line requests now book outcomes
   pub apart : AllApart turns.rest
-  pub made : AreMadeOf (memory_of book) turns.rest products
-  pub stores : FreeNothing products
+  pub made : AreMadeOf (memory_of book) turns.rest effects
 
-pub under-way-start : (book : BookState) (requests : List Request) (products : List Product) (outcomes : List Outcome) → Whole book.history → outcomes ≡ [] → AllApart requests → AllByRecursion (λ r. r.caller < caller_limit) requests
-    → AreMadeOf (memory_of book) requests products → FreeNothing products → length requests ≤ book.spaces → UnderWay book.bounds book.history requests requests products book outcomes
-under-way-start book requests products outcomes whole none apart lawful made stores space =
+pub under-way-start : (book : BookState) (requests : List Request) (effects : List Effect) (outcomes : List Outcome) → Whole book.history → outcomes ≡ [] → AllApart requests → AllByRecursion (λ r. r.caller < caller_limit) requests
+    → AreMadeOf (memory_of book) requests effects → length requests ≤ book.spaces → UnderWay book.bounds book.history requests requests effects book outcomes
+under-way-start book requests effects outcomes whole none apart lawful made space =
     let start = turns-start book requests outcomes whole none lawful space in
-    record { turns = start.0; apart = subst AllApart (sym start.1) apart; made = subst (λ l. AreMadeOf (memory_of book) l products) (sym start.1) made; stores = stores }
+    record { turns = start.0; apart = subst AllApart (sym start.1) apart; made = subst (λ l. AreMadeOf (memory_of book) l effects) (sym start.1) made }
 
-pub under-way-next : (bounds : Bounds) (line : List Entry) (requests now later : List Request) (product : Product) (products : List Product) (old new : BookState) (outcomes after : List Outcome) (o : Outcome) (changed : Request) → AllPairs (λ r s. r.caller ≢ s.caller) requests
-    → (u : UnderWay bounds line requests now (product ∷ products) old outcomes) (f : First (memory_of old) product products u.turns.rest) → RunsJob old new f.request.caller f.request.job o → old.spaces ≤ new.spaces + 1
-    → later ≡ set now (length outcomes) changed → after ≡ outcomes ++ o ∷ [] → UnderWay bounds line requests later products new after
-under-way-next bounds line requests now later product products old new outcomes after o changed distinct u f runs spaces written grown =
+pub under-way-next : (bounds : Bounds) (line : List Entry) (requests now later : List Request) (effect : Effect) (effects : List Effect) (old new : BookState) (outcomes after : List Outcome) (o : Outcome) (changed : Request) → AllPairs (λ r s. r.caller ≢ s.caller) requests
+    → (u : UnderWay bounds line requests now (effect ∷ effects) old outcomes) (f : First (memory_of old) effect effects u.turns.rest) → RunsJob old new f.request.caller f.request.job o → old.spaces ≤ new.spaces + 1
+    → later ≡ set now (length outcomes) changed → after ≡ outcomes ++ o ∷ [] → UnderWay bounds line requests later effects new after
+under-way-next bounds line requests now later effect effects old new outcomes after o changed distinct u f runs spaces written grown =
     let r = f.request in
     let rs = f.others in
     let next = turns-next bounds line requests now later old new outcomes after o changed r rs distinct u.turns f.are runs spaces written grown in
@@ -260,17 +258,16 @@ under-way-next bounds line requests now later product products old new outcomes 
     record {
       turns = next.0;
       apart = subst AllApart (sym next.1) both.1;
-      made = subst (λ l. AreMadeOf (memory_of new) l products) (sym next.1) (f.made ∙ sym (works-stay (memory_of old) (memory_of new) r rs turned both.0));
-      stores = u.stores.1;
+      made = subst (λ l. AreMadeOf (memory_of new) l effects) (sym next.1) (f.made ∙ sym (works-stay (memory_of old) (memory_of new) r rs turned both.0));
     }
 
 none-left : (m : State) (rest : List Request) → AreMadeOf m rest [] → rest ≡ []
 none-left m [] made = refl
 none-left m (r ∷ rs) made = absurd cc
 
-pub under-way-end : (bounds : Bounds) (line : List Entry) (requests now : List Request) (products : List Product) (book : BookState) (outcomes : List Outcome) → products ≡ [] → UnderWay bounds line requests now products book outcomes
+pub under-way-end : (bounds : Bounds) (line : List Entry) (requests now : List Request) (effects : List Effect) (book : BookState) (outcomes : List Outcome) → effects ≡ [] → UnderWay bounds line requests now effects book outcomes
     → Serving bounds line requests (range_with_len 0 (length requests)) book.history outcomes
-under-way-end bounds line requests now products book outcomes none u =
+under-way-end bounds line requests now effects book outcomes none u =
     turns-end bounds line requests now book outcomes u.turns (none-left (memory_of book) u.turns.rest (subst (AreMadeOf (memory_of book) u.turns.rest) none u.made))
 
 -- requests of one wave that were all served were served in the order of their waves

@@ -1,12 +1,11 @@
 -- A batch of alike calls in one wave: each request is for a single call of one word, and none reads the target of an earlier one.
-use Rattle.std.specs.Prelude.{◌≡◌, ◌≢◌, ◌⊎◌, ◌<◌, ◌≤◌, ◌+◌, All, false, List, [], ◌∷◌, length, map, Result, Ok, Some}
+use Rattle.std.specs.Prelude.{◌≡◌, ◌⊎◌, ◌<◌, ◌≤◌, ◌+◌, All, false, List, [], ◌∷◌, length, map, Result, Ok, Some}
 use Rattle.std.specs.List.{AllByRecursion}
 use Rattle.scan_kernels.specs.Metering.{Metered}
 use Rattle.vector_memory.specs.States.{State}
 use Rattle.cvl_text.specs.declared.fault.Fault.{Fault}
 use Rattle.cvl_text.specs.declared.word.Word.{Word}
-use Rattle.cvl_calls.specs.declared.product.Product.{Product}
-use Rattle.cvl_calls.specs.Outcomes.{Effect, Frees, effect_of}
+use Rattle.cvl_calls.specs.Outcomes.{Effect}
 use Rattle.call_history.specs.declared.request.Job.{Job}
 use Rattle.call_history.specs.declared.request.Job.TheVariants.{One, Many}
 use Rattle.call_history.specs.declared.request.Request.{Request}
@@ -27,13 +26,9 @@ AreOfWord word rs = All (λ r. word_asked r ≡ word) rs
 abbrev pub work_asked : State → Request → Result Effect Fault
 work_asked m r = work_back m (Some (returned r))
 
--- the products are what the calls of the requests make of the memory, in their order
-abbrev pub AreMadeOf : State → List Request → List Product → Type 0
-AreMadeOf m rs products = map (λ p. Ok (effect_of p)) products ≡ map (work_asked m) rs
-
--- no product is that a target goes
-abbrev pub FreeNothing : List Product → Type 0
-FreeNothing products = AllByRecursion (λ p. effect_of p ≢ Frees) products
+-- the effects are what the calls of the requests make of the memory, in their order
+abbrev pub AreMadeOf : State → List Request → List Effect → Type 0
+AreMadeOf m rs effects = map (λ effect. Ok effect) effects ≡ map (work_asked m) rs
 
 -- no later request reads the target of an earlier one
 abbrev pub AllApart : List Request → Type 0

@@ -8,7 +8,8 @@ ghost use Rattle.scan_kernels.specs.Metering.{raised};
 ghost use Rattle.cvl_calls.specs.Runs.{runs_kernel};
 ghost use Rattle.call_history.specs.Books.{memory_of};
 ghost use Rattle.call_history.specs.Callers.{caller_limit};
-ghost use Rattle.batch_flatten.specs.Alike.{AllApart, AreMadeOf, AreOfWord, FreeNothing, ServesAlike};
+ghost use Rattle.cvl_calls.specs.Joined.{effects_of};
+ghost use Rattle.batch_flatten.specs.Alike.{AllApart, AreMadeOf, AreOfWord, ServesAlike};
 ghost use Rattle.batch_flatten.specs.Counts.{wave_count};
 ghost use Rattle.batch_flatten.specs.Waves.{asked, jobs_clash};
 
@@ -22,7 +23,7 @@ use crate::ran::Ran;
 use crate::roll::{hand_back, job_word, wave_count};
 use crate::singly::serve_singly;
 use call_history::{Book, Outcome, Request};
-use cvl_calls::{Product, Stop, runs_kernel};
+use cvl_calls::{Made, Stop, runs_kernel};
 use cvl_text::Word;
 use scan_kernels::{Execution, Meter};
 use std::alloc::Global;
@@ -96,17 +97,16 @@ fn make_on(
     book: &mut Book,
     requests: &[Request],
     word: Word,
-) -> Result<Vec<Product>, Stop>
+) -> Result<Made, Stop>
     requires alike { AreOfWord word requests.now }
     requires kernel { IsTrue (runs_kernel word) }
-    ensures made { IfOk result (λ products. AreMadeOf (memory_of book.old) requests.now products.items) }
-    ensures stores { IfOk result (λ products. FreeNothing products.items) }
+    ensures made { IfOk result (λ made. AreMadeOf (memory_of book.old) requests.now (effects_of made)) }
     ensures counted { OnOk result (meter.new ≡ raised meter.old) }
     ensures stays { OnErr result (meter.new ≡ meter.old) }
     ensures book { book.new ≡ book.old }
 {
     let mut shelves = book.take_shelves();
-    let products = make_all(
+    let made = make_all(
         execution,
         alloc,
         meter,
@@ -116,7 +116,7 @@ fn make_on(
         word,
     );
     book.put_shelves(shelves);
-    products
+    made
 }
 
 /// Serves a batch of alike calls in one wave. Where the history cannot be reserved, each call comes back; where memory is wanted
@@ -159,8 +159,8 @@ pub(crate) fn serve_alike(
     };
     let before = meter.runs();
     match make_on(execution, alloc, meter, book, requests, word) {
-        Ok(products) => {
-            serve_made(alloc, book, requests, products, outcomes);
+        Ok(made) => {
+            serve_made(alloc, book, requests, made, outcomes);
             Some(one_wave(meter.runs() - before, 0))
         }
         Err(Stop::OutOfMemory) => {

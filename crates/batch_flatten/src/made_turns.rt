@@ -1,39 +1,74 @@
-//! The turns of requests whose products were made before, in the order of the requests. No call is moved that a history keeps in few
+//! The turns of requests whose results were made before, in the order of the requests. No call is moved that a history keeps in few
 //! bytes.
 
-ghost use Rattle.std.specs.Prelude.{◌≡◌, ◌≢◌, ◌+◌, ◌<◌, ◌≤◌, ◌∷◌, ◌++◌, [], Ok, length, vec_len, vec_capacity};
+ghost use Rattle.std.specs.Prelude.{◌≡◌, ◌≢◌, ◌+◌, ◌<◌, ◌≤◌, ◌∷◌, ◌++◌, [], Ok, length, map, vec_len, vec_capacity};
 ghost use Rattle.std.specs.List.{AllByRecursion, AllPairs, range_with_len};
 ghost use Rattle.cvl_text.specs.Tasks.{task_of};
-ghost use Rattle.cvl_calls.specs.Outcomes.{Frees, effect_of};
+ghost use Rattle.vector_memory.specs.Contents.{Bools, Ints};
+ghost use Rattle.cvl_text.specs.Answers.{BoolOf, IntOf};
+ghost use Rattle.cvl_calls.specs.Joined.{effects_of};
+ghost use Rattle.cvl_calls.specs.Outcomes.{Answers, Effect, Stores};
 ghost use Rattle.cvl_calls.specs.Steps.{work_on};
 ghost use Rattle.call_history.specs.declared.request.Job.{Job};
 ghost use Rattle.call_history.specs.declared.request.Outcome.{Outcome};
 ghost use Rattle.call_history.specs.Books.{memory_of};
 ghost use Rattle.call_history.specs.Callers.{caller_limit};
 ghost use Rattle.call_history.specs.Works.{IsWork};
-ghost use Rattle.batch_flatten.specs.Alike.{AllApart, AreMadeOf, FreeNothing, work_asked};
+ghost use Rattle.batch_flatten.specs.Alike.{AllApart, AreMadeOf, work_asked};
 ghost use Rattle.batch_flatten.specs.Batches.{RunsJob};
-ghost use Rattle.batch_flatten.specs.Joining.{work_back};
 ghost use Rattle.batch_flatten.specs.Serving.{Serving};
-ghost use Rattle.call_history.specs.Fits.{handed_back};
 
 use crate::roll::handed_back;
 use call_history::{Book, Job, Outcome, Request, Unserved, Work};
-use cvl_calls::Product;
-use cvl_text::Call;
+use cvl_calls::Made;
+use cvl_text::{Call, Reply};
 use std::alloc::Global;
 use std::mem;
+use vector_memory::Value;
 
-/// What a kernel made, as work.
-#[inline(always)]
-fn work_of(product: Product) -> Work
-    requires { effect_of product ≢ Frees }
-    ensures { IsWork result (Ok (effect_of product)) }
-{
-    match product {
-        Product::Store(value) => Work::Store(value),
-        Product::Reply(reply) => Work::Say(reply),
-        Product::Free => unreachable!(),
+/// What a call made, for its turn.
+pub(crate) trait Turned: Drop {
+    /// What it is.
+    ghost effect: { Self → Effect };
+
+    /// As work.
+    fn work(self) -> Work
+        ensures work { IsWork result (Ok (effect self)) };
+}
+
+impl Turned for Vec<i64> {
+    ghost effect = { λ v. Stores (Ints v.items) };
+
+    #[inline(always)]
+    fn work(self) -> Work {
+        Work::Store(Value::Ints(self))
+    }
+}
+
+impl Turned for Vec<bool> {
+    ghost effect = { λ v. Stores (Bools v.items) };
+
+    #[inline(always)]
+    fn work(self) -> Work {
+        Work::Store(Value::Bools(self))
+    }
+}
+
+impl Turned for i64 {
+    ghost effect = { λ x. Answers (IntOf x) };
+
+    #[inline(always)]
+    fn work(self) -> Work {
+        Work::Say(Reply::Int(self))
+    }
+}
+
+impl Turned for bool {
+    ghost effect = { λ x. Answers (BoolOf x) };
+
+    #[inline(always)]
+    fn work(self) -> Work {
+        Work::Say(Reply::Bool(self))
     }
 }
 
@@ -69,19 +104,17 @@ fn serve_one(
     alloc: Global,
     book: &mut Book,
     request: &mut Request,
-    product: Product,
+    work: Work,
     outcomes: &mut Vec<Outcome>,
 )
     requires caller { request.old.caller < caller_limit }
-    requires made { work_asked (memory_of book.old) request.old ≡ Ok (effect_of product) }
-    requires stores { effect_of product ≢ Frees }
+    requires made { (effect : Effect) × (work_asked (memory_of book.old) request.old ≡ Ok effect) × IsWork work (Ok effect) }
     requires space { 0 < book.old.spaces }
     requires room { vec_len outcomes.old < vec_capacity outcomes.old }
     ensures ran { (outcome : Outcome) × (outcomes.new.items ≡ outcomes.old.items ++ outcome ∷ []) × RunsJob book.old book.new request.old.caller request.old.job outcome }
     ensures one_space { book.old.spaces ≤ book.new.spaces + 1 }
     ensures spaces { vec_capacity outcomes.new ≡ vec_capacity outcomes.old }
 {
-    let work = work_of(product);
     let caller = request.caller;
     let Job::One(call) = &request.job else {
         unreachable!()
@@ -96,19 +129,46 @@ fn serve_one(
     }
 }
 
-/// Serves requests whose products were made, one after the other, and empties their list.
-pub(crate) fn serve_made(
+/// Serves requests of which this was made, one after the other.
+fn serve_each<T: Turned>(
     alloc: Global,
     book: &mut Book,
     requests: &mut Vec<Request>,
-    products: Vec<Product>,
+    made: Vec<T>,
     outcomes: &mut Vec<Outcome>,
 )
     requires lawful { AllByRecursion (λ r. r.caller < caller_limit) requests.old.items }
     requires distinct { AllPairs (λ r s. r.caller ≢ s.caller) requests.old.items }
     requires apart { AllApart requests.old.items }
-    requires made { AreMadeOf (memory_of book.old) requests.old.items products.items }
-    requires stores { FreeNothing products.items }
+    requires made { AreMadeOf (memory_of book.old) requests.old.items (map T.effect made.items) }
+    requires space { vec_len requests.old ≤ book.old.spaces }
+    requires empty { outcomes.old.items ≡ [] }
+    requires room { vec_len requests.old ≤ vec_capacity outcomes.old }
+    ensures serves { Serving book.old.bounds book.old.history requests.old.items (range_with_len 0 (length requests.old.items)) book.new.history outcomes.new.items }
+    ensures bounds { book.new.bounds ≡ book.old.bounds }
+    ensures request_spaces { vec_capacity requests.new ≡ vec_capacity requests.old }
+    ensures outcome_spaces { vec_capacity outcomes.new ≡ vec_capacity outcomes.old }
+{
+    // In a book no block is cut.
+    let _entries = book.len();
+    for one in made {
+        let place = outcomes.len();
+        serve_one(alloc, book, &mut requests[place], one.work(), outcomes);
+    }
+}
+
+/// Serves requests of which this was made, one after the other, and empties their list.
+pub(crate) fn serve_made(
+    alloc: Global,
+    book: &mut Book,
+    requests: &mut Vec<Request>,
+    made: Made,
+    outcomes: &mut Vec<Outcome>,
+)
+    requires lawful { AllByRecursion (λ r. r.caller < caller_limit) requests.old.items }
+    requires distinct { AllPairs (λ r s. r.caller ≢ s.caller) requests.old.items }
+    requires apart { AllApart requests.old.items }
+    requires made { AreMadeOf (memory_of book.old) requests.old.items (effects_of made) }
     requires space { vec_len requests.old ≤ book.old.spaces }
     requires empty { outcomes.old.items ≡ [] }
     requires room { vec_len requests.old ≤ vec_capacity outcomes.old }
@@ -118,11 +178,11 @@ pub(crate) fn serve_made(
     ensures request_spaces { vec_capacity requests.new ≡ vec_capacity requests.old }
     ensures outcome_spaces { vec_capacity outcomes.new ≡ vec_capacity outcomes.old }
 {
-    // In a book no block is cut.
-    let _entries = book.len();
-    for product in products {
-        let place = outcomes.len();
-        serve_one(alloc, book, &mut requests[place], product, outcomes);
+    match made {
+        Made::Ints(vectors) => serve_each(alloc, book, requests, vectors, outcomes),
+        Made::Bools(vectors) => serve_each(alloc, book, requests, vectors, outcomes),
+        Made::Numbers(items) => serve_each(alloc, book, requests, items, outcomes),
+        Made::Truths(items) => serve_each(alloc, book, requests, items, outcomes),
     }
     requests.clear();
 }

@@ -1,7 +1,8 @@
 //! Alike calls, run together: one kernel run over their joined operands, which are gathered and not copied.
 
-ghost use Rattle.std.specs.Prelude.{◌≡◌, map, All, IfOk, IsTrue};
+ghost use Rattle.std.specs.Prelude.{◌≡◌, Ok, map, All, IfOk, IsTrue};
 ghost use Rattle.scan_kernels.specs.Metering.{CountsRun};
+ghost use Rattle.cvl_calls.specs.Joined.{effects_of};
 ghost use Rattle.cvl_calls.specs.Judging.{IsReady, made, word_of};
 ghost use Rattle.cvl_calls.specs.Outcomes.{effect_of};
 ghost use Rattle.cvl_calls.specs.Runs.{runs_kernel};
@@ -10,15 +11,21 @@ mod elementwise;
 mod group;
 mod moves;
 mod packs;
+mod parts;
 mod reductions;
 mod scans;
 mod spreads;
+mod vectors;
+
+pub use group::{Group, Item};
 
 use crate::judged::Judged;
+use crate::made::{Made, products_of};
 use crate::product::Product;
 use crate::shelves::Shelves;
+use crate::stop::Stop;
 use cvl_text::{AskWord, Kind, OneWord, ThreeWord, TwoWord, Word};
-use group::{bools, ints};
+use group::AllJudged;
 use permute_kernels::{
     BackPermute, Gather, Pack, PackLengths, PackSegments, Permute, PermuteWhole,
 };
@@ -30,6 +37,7 @@ use scan_kernels::joined::{
 use scan_kernels::{Execution, Meter};
 use segment_desc::{OutOfMemory, Segd};
 use std::alloc::Global;
+use vectors::{bools, ints};
 
 /// Makes what is left to be done of calls of one word: one kernel run over their joined operands, by which the meter rises
 /// once. What each of them makes stands in their order. For want of memory nothing is made, and the meter stays.
@@ -64,15 +72,40 @@ pub fn run_joined_with(
     ensures makes { IfOk result (λ products. map effect_of products.items ≡ map made group.now) }
     ensures counted { CountsRun result meter.old meter.new }
 {
+    let products = Vec::with_capacity(alloc, group.len())?;
+    let judged = AllJudged { word, group };
+    match run_group(execution, alloc, meter, shelves, word, &judged) {
+        Ok(made) => Ok(products_of(products, made)),
+        Err(_) => Err(OutOfMemory),
+    }
+}
+
+/// Makes what calls of one word make: one kernel run over their joined operands, by which the meter rises once. Its results may lie in
+/// vectors that were kept for joined runs. Where a call has a fault or memory is wanted nothing is made, and the meter stays.
+#[inline(always)]
+pub fn run_group<G: Group>(
+    execution: &impl Execution,
+    alloc: Global,
+    meter: &mut Meter,
+    shelves: &mut Shelves,
+    word: Word,
+    group: &G,
+) -> Result<Made, Stop>
+    requires alike { G.IsAlike group.now }
+    requires word { G.word group.now ≡ word }
+    requires kernel { IsTrue (runs_kernel word) }
+    ensures makes { IfOk result (λ made. map (λ effect. Ok effect) (effects_of made) ≡ G.works group.now) }
+    ensures counted { CountsRun result meter.old meter.new }
+{
     match word {
-        Word::Ask(word) => ask(execution, alloc, meter, word, group),
-        Word::One(inner) => one(execution, alloc, meter, shelves, inner, word, group),
-        Word::Two(inner) => two(execution, alloc, meter, shelves, inner, word, group),
-        Word::Three(inner) => three(execution, alloc, meter, shelves, inner, word, group),
-        Word::BckSeg(kind) => four(execution, alloc, meter, shelves, kind, word, group),
-        Word::DisZ => ints(execution, alloc, meter, shelves, Repeat, word, group),
-        Word::DisB => bools(execution, alloc, meter, shelves, Repeat, word, group),
-        Word::Ind => ints(execution, alloc, meter, shelves, Index, word, group),
+        Word::Ask(inner) => ask(execution, alloc, meter, inner, group),
+        Word::One(inner) => one(execution, alloc, meter, shelves, inner, group),
+        Word::Two(inner) => two(execution, alloc, meter, shelves, inner, group),
+        Word::Three(inner) => three(execution, alloc, meter, shelves, inner, group),
+        Word::BckSeg(kind) => four(execution, alloc, meter, shelves, kind, group),
+        Word::DisZ => ints(execution, alloc, meter, shelves, Repeat, group),
+        Word::DisB => bools(execution, alloc, meter, shelves, Repeat, group),
+        Word::Ind => ints(execution, alloc, meter, shelves, Index, group),
         Word::SetInts => unreachable!(),
         Word::SetBools => unreachable!(),
         Word::Alo => unreachable!(),
@@ -81,17 +114,18 @@ pub fn run_joined_with(
     }
 }
 
-fn ask(
+#[inline(always)]
+fn ask<G: Group>(
     execution: &impl Execution,
     alloc: Global,
     meter: &mut Meter,
     word: AskWord,
-    group: &[Judged<'_>],
-) -> Result<Vec<Product>, OutOfMemory>
-    requires ready { All IsReady group.now }
-    requires alike { All (λ judged. word_of judged ≡ Word.Ask word) group.now }
+    group: &G,
+) -> Result<Made, Stop>
+    requires alike { G.IsAlike group.now }
+    requires word { G.word group.now ≡ Word.Ask word }
     requires kernel { IsTrue (runs_kernel (Word.Ask word)) }
-    ensures makes { IfOk result (λ products. map effect_of products.items ≡ map made group.now) }
+    ensures makes { IfOk result (λ made. map (λ effect. Ok effect) (effects_of made) ≡ G.works group.now) }
     ensures counted { CountsRun result meter.old meter.new }
 {
     match word {
@@ -103,163 +137,140 @@ fn ask(
     }
 }
 
-fn one(
+#[inline(always)]
+fn one<G: Group>(
     execution: &impl Execution,
     alloc: Global,
     meter: &mut Meter,
     shelves: &mut Shelves,
     inner: OneWord,
-    word: Word,
-    group: &[Judged<'_>],
-) -> Result<Vec<Product>, OutOfMemory>
-    requires ready { All IsReady group.now }
-    requires alike { All (λ judged. word_of judged ≡ word) group.now }
-    requires kernel { IsTrue (runs_kernel word) }
-    requires word { word ≡ Word.One inner }
-    ensures makes { IfOk result (λ products. map effect_of products.items ≡ map made group.now) }
+    group: &G,
+) -> Result<Made, Stop>
+    requires alike { G.IsAlike group.now }
+    requires kernel { IsTrue (runs_kernel (G.word group.now)) }
+    requires word { G.word group.now ≡ Word.One inner }
+    ensures makes { IfOk result (λ made. map (λ effect. Ok effect) (effects_of made) ≡ G.works group.now) }
     ensures counted { CountsRun result meter.old meter.new }
 {
     match inner {
-        OneWord::MapZ1(op) => ints(execution, alloc, meter, shelves, op, word, group),
-        OneWord::MapB1(op) => bools(execution, alloc, meter, shelves, op, word, group),
-        OneWord::Boo => bools(execution, alloc, meter, shelves, Truth, word, group),
-        OneWord::IntOf => ints(execution, alloc, meter, shelves, Number, word, group),
-        OneWord::ScanZ(op) => ints(execution, alloc, meter, shelves, ScanInts(op), word, group),
-        OneWord::ScanB(op) => bools(execution, alloc, meter, shelves, ScanBools(op), word, group),
+        OneWord::MapZ1(op) => ints(execution, alloc, meter, shelves, op, group),
+        OneWord::MapB1(op) => bools(execution, alloc, meter, shelves, op, group),
+        OneWord::Boo => bools(execution, alloc, meter, shelves, Truth, group),
+        OneWord::IntOf => ints(execution, alloc, meter, shelves, Number, group),
+        OneWord::ScanZ(op) => ints(execution, alloc, meter, shelves, ScanInts(op), group),
+        OneWord::ScanB(op) => bools(execution, alloc, meter, shelves, ScanBools(op), group),
         OneWord::Mov => unreachable!(),
         OneWord::MakeSegs => unreachable!(),
         OneWord::LenSegs => unreachable!(),
     }
 }
 
-fn two(
+#[inline(always)]
+fn two<G: Group>(
     execution: &impl Execution,
     alloc: Global,
     meter: &mut Meter,
     shelves: &mut Shelves,
     inner: TwoWord,
-    word: Word,
-    group: &[Judged<'_>],
-) -> Result<Vec<Product>, OutOfMemory>
-    requires ready { All IsReady group.now }
-    requires alike { All (λ judged. word_of judged ≡ word) group.now }
-    requires word { word ≡ Word.Two inner }
-    ensures makes { IfOk result (λ products. map effect_of products.items ≡ map made group.now) }
+    group: &G,
+) -> Result<Made, Stop>
+    requires alike { G.IsAlike group.now }
+    requires word { G.word group.now ≡ Word.Two inner }
+    ensures makes { IfOk result (λ made. map (λ effect. Ok effect) (effects_of made) ≡ G.works group.now) }
     ensures counted { CountsRun result meter.old meter.new }
 {
     match inner {
-        TwoWord::MapZ2(op) => ints(execution, alloc, meter, shelves, op, word, group),
-        TwoWord::CmpZ(op) => bools(execution, alloc, meter, shelves, op, word, group),
-        TwoWord::MapB2(op) => bools(execution, alloc, meter, shelves, op, word, group),
+        TwoWord::MapZ2(op) => ints(execution, alloc, meter, shelves, op, group),
+        TwoWord::CmpZ(op) => bools(execution, alloc, meter, shelves, op, group),
+        TwoWord::MapB2(op) => bools(execution, alloc, meter, shelves, op, group),
         TwoWord::ScanSegZ(op) => ints(
             execution,
             alloc,
             meter,
             shelves,
-            ScanIntSegments(op),
-            word,
-            group,
-        ),
+            ScanIntSegments(op), group),
         TwoWord::ScanSegB(op) => bools(
             execution,
             alloc,
             meter,
             shelves,
-            ScanBoolSegments(op),
-            word,
-            group,
-        ),
+            ScanBoolSegments(op), group),
         TwoWord::RedSegZ(op) => ints(
             execution,
             alloc,
             meter,
             shelves,
-            ReduceIntSegments(op),
-            word,
-            group,
-        ),
+            ReduceIntSegments(op), group),
         TwoWord::RedSegB(op) => bools(
             execution,
             alloc,
             meter,
             shelves,
-            ReduceBoolSegments(op),
-            word,
-            group,
-        ),
-        TwoWord::DisSeg(Kind::Z) => ints(execution, alloc, meter, shelves, Distribute, word, group),
+            ReduceBoolSegments(op), group),
+        TwoWord::DisSeg(Kind::Z) => ints(execution, alloc, meter, shelves, Distribute, group),
         TwoWord::DisSeg(Kind::B) => bools(
-            execution, alloc, meter, shelves, Distribute, word, group,
-        ),
-        TwoWord::Smp(Kind::Z) => ints(execution, alloc, meter, shelves, PermuteWhole, word, group),
-        TwoWord::Smp(Kind::B) => bools(execution, alloc, meter, shelves, PermuteWhole, word, group),
-        TwoWord::Bck(Kind::Z) => ints(execution, alloc, meter, shelves, Gather, word, group),
-        TwoWord::Bck(Kind::B) => bools(execution, alloc, meter, shelves, Gather, word, group),
-        TwoWord::Pck(Kind::Z) => ints(execution, alloc, meter, shelves, Pack, word, group),
-        TwoWord::Pck(Kind::B) => bools(execution, alloc, meter, shelves, Pack, word, group),
-        TwoWord::Pkl => ints(execution, alloc, meter, shelves, PackLengths, word, group),
+            execution, alloc, meter, shelves, Distribute, group),
+        TwoWord::Smp(Kind::Z) => ints(execution, alloc, meter, shelves, PermuteWhole, group),
+        TwoWord::Smp(Kind::B) => bools(execution, alloc, meter, shelves, PermuteWhole, group),
+        TwoWord::Bck(Kind::Z) => ints(execution, alloc, meter, shelves, Gather, group),
+        TwoWord::Bck(Kind::B) => bools(execution, alloc, meter, shelves, Gather, group),
+        TwoWord::Pck(Kind::Z) => ints(execution, alloc, meter, shelves, Pack, group),
+        TwoWord::Pck(Kind::B) => bools(execution, alloc, meter, shelves, Pack, group),
+        TwoWord::Pkl => ints(execution, alloc, meter, shelves, PackLengths, group),
     }
 }
 
-fn three(
+#[inline(always)]
+fn three<G: Group>(
     execution: &impl Execution,
     alloc: Global,
     meter: &mut Meter,
     shelves: &mut Shelves,
     inner: ThreeWord,
-    word: Word,
-    group: &[Judged<'_>],
-) -> Result<Vec<Product>, OutOfMemory>
-    requires ready { All IsReady group.now }
-    requires alike { All (λ judged. word_of judged ≡ word) group.now }
-    requires word { word ≡ Word.Three inner }
-    ensures makes { IfOk result (λ products. map effect_of products.items ≡ map made group.now) }
+    group: &G,
+) -> Result<Made, Stop>
+    requires alike { G.IsAlike group.now }
+    requires word { G.word group.now ≡ Word.Three inner }
+    ensures makes { IfOk result (λ made. map (λ effect. Ok effect) (effects_of made) ≡ G.works group.now) }
     ensures counted { CountsRun result meter.old meter.new }
 {
     match inner {
-        ThreeWord::Sel(Kind::Z) => ints(execution, alloc, meter, shelves, Select, word, group),
-        ThreeWord::Sel(Kind::B) => bools(execution, alloc, meter, shelves, Select, word, group),
-        ThreeWord::IndSeg => ints(execution, alloc, meter, shelves, IndexSegments, word, group),
-        ThreeWord::SmpSeg(Kind::Z) => ints(execution, alloc, meter, shelves, Permute, word, group),
-        ThreeWord::SmpSeg(Kind::B) => bools(execution, alloc, meter, shelves, Permute, word, group),
+        ThreeWord::Sel(Kind::Z) => ints(execution, alloc, meter, shelves, Select, group),
+        ThreeWord::Sel(Kind::B) => bools(execution, alloc, meter, shelves, Select, group),
+        ThreeWord::IndSeg => ints(execution, alloc, meter, shelves, IndexSegments, group),
+        ThreeWord::SmpSeg(Kind::Z) => ints(execution, alloc, meter, shelves, Permute, group),
+        ThreeWord::SmpSeg(Kind::B) => bools(execution, alloc, meter, shelves, Permute, group),
         ThreeWord::PckSeg(Kind::Z) => ints(
             execution,
             alloc,
             meter,
             shelves,
-            PackSegments,
-            word,
-            group,
-        ),
+            PackSegments, group),
         ThreeWord::PckSeg(Kind::B) => bools(
             execution,
             alloc,
             meter,
             shelves,
-            PackSegments,
-            word,
-            group,
-        ),
+            PackSegments, group),
     }
 }
 
-fn four(
+#[inline(always)]
+fn four<G: Group>(
     execution: &impl Execution,
     alloc: Global,
     meter: &mut Meter,
     shelves: &mut Shelves,
     kind: Kind,
-    word: Word,
-    group: &[Judged<'_>],
-) -> Result<Vec<Product>, OutOfMemory>
-    requires ready { All IsReady group.now }
-    requires alike { All (λ judged. word_of judged ≡ word) group.now }
-    requires word { word ≡ Word.BckSeg kind }
-    ensures makes { IfOk result (λ products. map effect_of products.items ≡ map made group.now) }
+    group: &G,
+) -> Result<Made, Stop>
+    requires alike { G.IsAlike group.now }
+    requires word { G.word group.now ≡ Word.BckSeg kind }
+    ensures makes { IfOk result (λ made. map (λ effect. Ok effect) (effects_of made) ≡ G.works group.now) }
     ensures counted { CountsRun result meter.old meter.new }
 {
     match kind {
-        Kind::Z => ints(execution, alloc, meter, shelves, BackPermute, word, group),
-        Kind::B => bools(execution, alloc, meter, shelves, BackPermute, word, group),
+        Kind::Z => ints(execution, alloc, meter, shelves, BackPermute, group),
+        Kind::B => bools(execution, alloc, meter, shelves, BackPermute, group),
     }
 }

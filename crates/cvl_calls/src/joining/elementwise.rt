@@ -6,15 +6,27 @@ ghost use Rattle.cvl_text.specs.declared.word.ThreeWord.TheVariants as threes;
 ghost use Rattle.cvl_text.specs.declared.word.TwoWord.TheVariants as twos;
 ghost use Rattle.cvl_text.specs.declared.word.Word.TheVariants as words;
 
-use crate::joining::group::Joins;
+use crate::joining::parts::{Joins, Judge};
 use crate::judged::Judged;
-use cvl_text::{B1, B2, Cmp, Z1, Z2};
+use crate::shapes::elementwise::{alter_bools, alter_ints, compare, map_bools, map_ints, numbers_of, select_bools, select_ints, truths_of};
+use crate::stop::Stop;
+use cvl_text::{B1, B2, Call, Cmp, Kind, Z1, Z2};
+use scan_kernels::Execution;
 use scan_kernels::joined::{Number, Select, Truth};
 
 // `OP_wuz` of one vector.
 impl<'a> Joins<'a, &'a [i64], i64> for Z1 {
     ghost word = { λ op. words.One (ones.MapZ1 op) };
 
+    #[inline(always)]
+    fn judged<E: Execution>(self, judge: &Judge<'_, 'a, E>, call: &'a Call) -> Result<Judged<'a>, Stop> {
+        match call {
+            Call::MapZ1 { op, a, .. } => Ok(alter_ints(judge.memory, *op, a)?),
+            _ => unreachable!(),
+        }
+    }
+
+    #[inline(always)]
     fn part(self, judged: &Judged<'a>) -> &'a [i64] {
         match judged {
             Judged::AlterInts(_, xs) => *xs,
@@ -27,6 +39,15 @@ impl<'a> Joins<'a, &'a [i64], i64> for Z1 {
 impl<'a> Joins<'a, &'a [bool], bool> for B1 {
     ghost word = { λ op. words.One (ones.MapB1 op) };
 
+    #[inline(always)]
+    fn judged<E: Execution>(self, judge: &Judge<'_, 'a, E>, call: &'a Call) -> Result<Judged<'a>, Stop> {
+        match call {
+            Call::MapB1 { op, a, .. } => Ok(alter_bools(judge.memory, *op, a)?),
+            _ => unreachable!(),
+        }
+    }
+
+    #[inline(always)]
     fn part(self, judged: &Judged<'a>) -> &'a [bool] {
         match judged {
             Judged::AlterBools(_, xs) => *xs,
@@ -39,6 +60,15 @@ impl<'a> Joins<'a, &'a [bool], bool> for B1 {
 impl<'a> Joins<'a, &'a [i64], bool> for Truth {
     ghost word = { λ kernel. words.One ones.Boo };
 
+    #[inline(always)]
+    fn judged<E: Execution>(self, judge: &Judge<'_, 'a, E>, call: &'a Call) -> Result<Judged<'a>, Stop> {
+        match call {
+            Call::Boo { a, .. } => Ok(truths_of(judge.memory, a)?),
+            _ => unreachable!(),
+        }
+    }
+
+    #[inline(always)]
     fn part(self, judged: &Judged<'a>) -> &'a [i64] {
         match judged {
             Judged::TruthsOf(xs) => *xs,
@@ -51,6 +81,15 @@ impl<'a> Joins<'a, &'a [i64], bool> for Truth {
 impl<'a> Joins<'a, &'a [bool], i64> for Number {
     ghost word = { λ kernel. words.One ones.IntOf };
 
+    #[inline(always)]
+    fn judged<E: Execution>(self, judge: &Judge<'_, 'a, E>, call: &'a Call) -> Result<Judged<'a>, Stop> {
+        match call {
+            Call::IntOf { a, .. } => Ok(numbers_of(judge.memory, a)?),
+            _ => unreachable!(),
+        }
+    }
+
+    #[inline(always)]
     fn part(self, judged: &Judged<'a>) -> &'a [bool] {
         match judged {
             Judged::NumbersOf(xs) => *xs,
@@ -63,6 +102,15 @@ impl<'a> Joins<'a, &'a [bool], i64> for Number {
 impl<'a> Joins<'a, (&'a [i64], &'a [i64]), i64> for Z2 {
     ghost word = { λ op. words.Two (twos.MapZ2 op) };
 
+    #[inline(always)]
+    fn judged<E: Execution>(self, judge: &Judge<'_, 'a, E>, call: &'a Call) -> Result<Judged<'a>, Stop> {
+        match call {
+            Call::MapZ2 { op, a, b, .. } => Ok(map_ints(judge.memory, *op, a, b)?),
+            _ => unreachable!(),
+        }
+    }
+
+    #[inline(always)]
     fn part(self, judged: &Judged<'a>) -> (&'a [i64], &'a [i64]) {
         match judged {
             Judged::MapInts(_, xs, ys) => (*xs, *ys),
@@ -75,6 +123,15 @@ impl<'a> Joins<'a, (&'a [i64], &'a [i64]), i64> for Z2 {
 impl<'a> Joins<'a, (&'a [i64], &'a [i64]), bool> for Cmp {
     ghost word = { λ op. words.Two (twos.CmpZ op) };
 
+    #[inline(always)]
+    fn judged<E: Execution>(self, judge: &Judge<'_, 'a, E>, call: &'a Call) -> Result<Judged<'a>, Stop> {
+        match call {
+            Call::CmpZ { op, a, b, .. } => Ok(compare(judge.memory, *op, a, b)?),
+            _ => unreachable!(),
+        }
+    }
+
+    #[inline(always)]
     fn part(self, judged: &Judged<'a>) -> (&'a [i64], &'a [i64]) {
         match judged {
             Judged::Compare(_, xs, ys) => (*xs, *ys),
@@ -87,6 +144,15 @@ impl<'a> Joins<'a, (&'a [i64], &'a [i64]), bool> for Cmp {
 impl<'a> Joins<'a, (&'a [bool], &'a [bool]), bool> for B2 {
     ghost word = { λ op. words.Two (twos.MapB2 op) };
 
+    #[inline(always)]
+    fn judged<E: Execution>(self, judge: &Judge<'_, 'a, E>, call: &'a Call) -> Result<Judged<'a>, Stop> {
+        match call {
+            Call::MapB2 { op, a, b, .. } => Ok(map_bools(judge.memory, *op, a, b)?),
+            _ => unreachable!(),
+        }
+    }
+
+    #[inline(always)]
     fn part(self, judged: &Judged<'a>) -> (&'a [bool], &'a [bool]) {
         match judged {
             Judged::MapBools(_, xs, ys) => (*xs, *ys),
@@ -99,6 +165,15 @@ impl<'a> Joins<'a, (&'a [bool], &'a [bool]), bool> for B2 {
 impl<'a> Joins<'a, (&'a [bool], &'a [i64], &'a [i64]), i64> for Select {
     ghost word = { λ kernel. words.Three (threes.Sel kinds.Z) };
 
+    #[inline(always)]
+    fn judged<E: Execution>(self, judge: &Judge<'_, 'a, E>, call: &'a Call) -> Result<Judged<'a>, Stop> {
+        match call {
+            Call::Sel { kind: Kind::Z, f, a, b, .. } => Ok(select_ints(judge.memory, f, a, b)?),
+            _ => unreachable!(),
+        }
+    }
+
+    #[inline(always)]
     fn part(self, judged: &Judged<'a>) -> (&'a [bool], &'a [i64], &'a [i64]) {
         match judged {
             Judged::SelectInts(flags, xs, ys) => (*flags, *xs, *ys),
@@ -111,6 +186,15 @@ impl<'a> Joins<'a, (&'a [bool], &'a [i64], &'a [i64]), i64> for Select {
 impl<'a> Joins<'a, (&'a [bool], &'a [bool], &'a [bool]), bool> for Select {
     ghost word = { λ kernel. words.Three (threes.Sel kinds.B) };
 
+    #[inline(always)]
+    fn judged<E: Execution>(self, judge: &Judge<'_, 'a, E>, call: &'a Call) -> Result<Judged<'a>, Stop> {
+        match call {
+            Call::Sel { kind: Kind::B, f, a, b, .. } => Ok(select_bools(judge.memory, f, a, b)?),
+            _ => unreachable!(),
+        }
+    }
+
+    #[inline(always)]
     fn part(self, judged: &Judged<'a>) -> (&'a [bool], &'a [bool], &'a [bool]) {
         match judged {
             Judged::SelectBools(flags, xs, ys) => (*flags, *xs, *ys),

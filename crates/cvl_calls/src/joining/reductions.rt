@@ -1,6 +1,6 @@
 //! Reductions of all items, of which each is a reply.
 
-ghost use Rattle.std.specs.Prelude.{[], ◌≡◌, ◌≤◌, length, map, All, IfOk, vec_capacity};
+ghost use Rattle.std.specs.Prelude.{◌≡◌, Ok, Some, length, map, slice_get, IfOk};
 ghost use Rattle.item_operations.specs.BooleanScans.{combine_b, unit_b};
 ghost use Rattle.item_operations.specs.IntegerScans.{combine_z, unit_z};
 ghost use Rattle.scan_kernels.specs.Metering.{CountsRun};
@@ -8,109 +8,123 @@ ghost use Rattle.scan_kernels.specs.Segmented.{reduced};
 ghost use Rattle.cvl_text.specs.Answers.{BoolOf, IntOf};
 ghost use Rattle.cvl_text.specs.declared.word.AskWord.TheVariants as asks;
 ghost use Rattle.cvl_text.specs.declared.word.Word.TheVariants as words;
-ghost use Rattle.cvl_calls.specs.Judging.{made, word_of};
-ghost use Rattle.cvl_calls.specs.Outcomes.{Answers, effect_of};
+ghost use Rattle.cvl_calls.specs.Joined.{effects_of};
+ghost use Rattle.cvl_calls.specs.Outcomes.{Answers};
 
+use crate::joining::group::{Group, Item};
 use crate::judged::Judged;
-use crate::product::Product;
-use cvl_text::{Reply, ScanB, ScanZ};
+use crate::made::Made;
+use crate::shapes::scans::{reduce_bools, reduce_ints};
+use crate::stop::Stop;
+use cvl_text::{Call, ScanB, ScanZ};
 use scan_kernels::joined::{reduce_whole_b_joined, reduce_whole_z_joined};
 use scan_kernels::{Execution, Meter};
-use segment_desc::OutOfMemory;
 use std::alloc::Global;
 
 /// `OP_ruz`: the integers of each call as one, by one kernel run.
-pub(crate) fn reduced_ints(
+pub(crate) fn reduced_ints<'a, G: Group>(
     execution: &impl Execution,
     alloc: Global,
     meter: &mut Meter,
     op: ScanZ,
-    group: &[Judged<'_>],
-) -> Result<Vec<Product>, OutOfMemory>
-    requires alike { All (λ judged. word_of judged ≡ words.Ask (asks.RedZ op)) group.now }
-    ensures makes { IfOk result (λ products. map effect_of products.items ≡ map made group.now) }
+    group: &'a G,
+) -> Result<Made, Stop>
+    requires alike { G.IsAlike group.now }
+    requires word { G.word group.now ≡ words.Ask (asks.RedZ op) }
+    ensures makes { IfOk result (λ made. map (λ effect. Ok effect) (effects_of made) ≡ G.works group.now) }
     ensures counted { CountsRun result meter.old meter.new }
 {
-    let products = Vec::with_capacity(alloc, group.len())?;
     let parts = ints_of(alloc, op, group)?;
     let items = reduce_whole_z_joined(execution, alloc, meter, op, &parts)?;
-    Ok(int_replies(products, &items))
+    Ok(Made::Numbers(items))
 }
 
-fn int_replies(mut products: Vec<Product>, items: &[i64]) -> Vec<Product>
-    requires empty { products.items ≡ [] }
-    requires room { length items.now ≤ vec_capacity products }
-    ensures { map effect_of result.items ≡ map (λ item. Answers (IntOf item)) items.now }
+/// The integers of the call at a place, unless it has a fault.
+fn ints_at<'a, G: Group>(op: ScanZ, group: &'a G, place: usize) -> Result<&'a [i64], Stop>
+    requires alike { G.IsAlike group.now }
+    requires word { G.word group.now ≡ words.Ask (asks.RedZ op) }
+    ensures { IfOk result (λ p. slice_get (G.works group.now) place ≡ Some (Ok (Answers (IntOf (reduced (combine_z op) (unit_z op) p.now))))) }
 {
-    for item in items {
-        products.push_reserved(Product::Reply(Reply::Int(*item)));
+    let judged = match group.item(place) {
+        Some(Item::Judged(judged)) => judged,
+        Some(Item::Call(memory, Call::RedZ { op, a })) => reduce_ints(memory, *op, a)?,
+        Some(Item::Call(_, _)) => unreachable!(),
+        None => return Err(Stop::OutOfMemory),
+    };
+    match judged {
+        Judged::ReduceInts(_, xs) => Ok(xs),
+        _ => unreachable!(),
     }
-    products
 }
 
-fn ints_of<'a>(
+/// The integers of each call.
+fn ints_of<'a, G: Group>(
     alloc: Global,
     op: ScanZ,
-    group: &[Judged<'a>],
-) -> Result<Vec<&'a [i64]>, OutOfMemory>
-    requires { All (λ judged. word_of judged ≡ words.Ask (asks.RedZ op)) group.now }
-    ensures count { IfOk result (λ parts. length parts.items ≡ length group.now) }
-    ensures makes { IfOk result (λ parts. map (λ p. Answers (IntOf (reduced (combine_z op) (unit_z op) p.now))) parts.items ≡ map made group.now) }
+    group: &'a G,
+) -> Result<Vec<&'a [i64]>, Stop>
+    requires alike { G.IsAlike group.now }
+    requires word { G.word group.now ≡ words.Ask (asks.RedZ op) }
+    ensures makes { IfOk result (λ parts. map (λ p. Ok (Answers (IntOf (reduced (combine_z op) (unit_z op) p.now)))) parts.items ≡ G.works group.now) }
 {
-    let mut parts = Vec::with_capacity(alloc, group.len())?;
-    for judged in group {
-        match judged {
-            Judged::ReduceInts(_, xs) => parts.push_reserved(*xs),
-            _ => unreachable!(),
-        }
+    let count = group.count();
+    let mut parts = Vec::with_capacity(alloc, count)?;
+    for place in 0..count {
+        parts.push_reserved(ints_at(op, group, place)?);
     }
     Ok(parts)
 }
 
 /// `OP_rub`: the truth values of each call as one, by one kernel run.
-pub(crate) fn reduced_bools(
+pub(crate) fn reduced_bools<'a, G: Group>(
     execution: &impl Execution,
     alloc: Global,
     meter: &mut Meter,
     op: ScanB,
-    group: &[Judged<'_>],
-) -> Result<Vec<Product>, OutOfMemory>
-    requires alike { All (λ judged. word_of judged ≡ words.Ask (asks.RedB op)) group.now }
-    ensures makes { IfOk result (λ products. map effect_of products.items ≡ map made group.now) }
+    group: &'a G,
+) -> Result<Made, Stop>
+    requires alike { G.IsAlike group.now }
+    requires word { G.word group.now ≡ words.Ask (asks.RedB op) }
+    ensures makes { IfOk result (λ made. map (λ effect. Ok effect) (effects_of made) ≡ G.works group.now) }
     ensures counted { CountsRun result meter.old meter.new }
 {
-    let products = Vec::with_capacity(alloc, group.len())?;
     let parts = bools_of(alloc, op, group)?;
     let items = reduce_whole_b_joined(execution, alloc, meter, op, &parts)?;
-    Ok(bool_replies(products, &items))
+    Ok(Made::Truths(items))
 }
 
-fn bool_replies(mut products: Vec<Product>, items: &[bool]) -> Vec<Product>
-    requires empty { products.items ≡ [] }
-    requires room { length items.now ≤ vec_capacity products }
-    ensures { map effect_of result.items ≡ map (λ item. Answers (BoolOf item)) items.now }
+/// The truth values of the call at a place, unless it has a fault.
+fn bools_at<'a, G: Group>(op: ScanB, group: &'a G, place: usize) -> Result<&'a [bool], Stop>
+    requires alike { G.IsAlike group.now }
+    requires word { G.word group.now ≡ words.Ask (asks.RedB op) }
+    ensures { IfOk result (λ p. slice_get (G.works group.now) place ≡ Some (Ok (Answers (BoolOf (reduced (combine_b op) (unit_b op) p.now))))) }
 {
-    for item in items {
-        products.push_reserved(Product::Reply(Reply::Bool(*item)));
+    let judged = match group.item(place) {
+        Some(Item::Judged(judged)) => judged,
+        Some(Item::Call(memory, Call::RedB { op, a })) => reduce_bools(memory, *op, a)?,
+        Some(Item::Call(_, _)) => unreachable!(),
+        None => return Err(Stop::OutOfMemory),
+    };
+    match judged {
+        Judged::ReduceBools(_, xs) => Ok(xs),
+        _ => unreachable!(),
     }
-    products
 }
 
-fn bools_of<'a>(
+/// The truth values of each call.
+fn bools_of<'a, G: Group>(
     alloc: Global,
     op: ScanB,
-    group: &[Judged<'a>],
-) -> Result<Vec<&'a [bool]>, OutOfMemory>
-    requires { All (λ judged. word_of judged ≡ words.Ask (asks.RedB op)) group.now }
-    ensures count { IfOk result (λ parts. length parts.items ≡ length group.now) }
-    ensures makes { IfOk result (λ parts. map (λ p. Answers (BoolOf (reduced (combine_b op) (unit_b op) p.now))) parts.items ≡ map made group.now) }
+    group: &'a G,
+) -> Result<Vec<&'a [bool]>, Stop>
+    requires alike { G.IsAlike group.now }
+    requires word { G.word group.now ≡ words.Ask (asks.RedB op) }
+    ensures makes { IfOk result (λ parts. map (λ p. Ok (Answers (BoolOf (reduced (combine_b op) (unit_b op) p.now)))) parts.items ≡ G.works group.now) }
 {
-    let mut parts = Vec::with_capacity(alloc, group.len())?;
-    for judged in group {
-        match judged {
-            Judged::ReduceBools(_, xs) => parts.push_reserved(*xs),
-            _ => unreachable!(),
-        }
+    let count = group.count();
+    let mut parts = Vec::with_capacity(alloc, count)?;
+    for place in 0..count {
+        parts.push_reserved(bools_at(op, group, place)?);
     }
     Ok(parts)
 }

@@ -1,22 +1,14 @@
-use Rattle.std.proofs.Common.{◌≡◌, List, length, map, ap, ◌∙◌, Bor, ℤ, arith}
-use Rattle.std.proofs.lemmas.List.{length-map}
-use Rattle.std.proofs.lemmas.Simd.{map-map}
+use Rattle.std.proofs.Common.{◌≡◌, ◌∙◌, Bor, ℤ, List, ap, map, subst, sym}
 use Rattle.item_operations.specs.IntegerScans.{combine_z, unit_z}
 use Rattle.scan_kernels.specs.Segmented.{reduced}
 use Rattle.cvl_text.specs.Answers.{IntOf}
 use Rattle.cvl_calls.specs.Outcomes.{Effect, Answers}
+use Rattle.cvl_calls.proofs.Joined.{replies-made}
 use Rattle.cvl_calls.proofs.joining.reductions.reduced_ints.Goals as goal
-
-pub int_replies-requires-clause-room : goal.int_replies-requires-clause-room
-int_replies-requires-clause-room g c =
-    let made = λ (p : Bor (List ℤ)). reduced (combine_z c.args.op) (unit_z c.args.op) p.now in
-    let same : length c.deref-2.result.now ≡ length c.args.group.now =
-    ap length (c.deref-2.ensures.value ∙ c.in_ok-items.ensures.parts) ∙ length-map c.deref.result.now made ∙ ap length c.deref.ensures.value ∙ c.in_ok-parts.ensures.count in
-    omega (arith, same, c.in_ok-products.ensures.capacity)
 
 pub returns-clause-makes : goal.returns-clause-makes
 returns-clause-makes g c =
-    let made = λ (p : Bor (List ℤ)). reduced (combine_z c.args.op) (unit_z c.args.op) p.now in
+    let mk = λ (p : Bor (List ℤ)). reduced (combine_z c.args.op) (unit_z c.args.op) p.now in
     let said : ℤ → Effect = λ item. Answers (IntOf item) in
-    c.int_replies.ensures ∙ ap (map said) (c.deref-2.ensures.value ∙ c.in_ok-items.ensures.parts ∙ ap (map made) c.deref.ensures.value)
-    ∙ map-map said made c.in_ok-parts.parts.items ∙ c.in_ok-parts.ensures.makes
+    replies-made said mk c.in_ok-items.items.items c.in_ok-parts.parts.items (g.G.Group.works c.args.group.now)
+    (c.in_ok-items.ensures.parts ∙ ap (map mk) c.deref.ensures.value) c.in_ok-parts.ensures.makes

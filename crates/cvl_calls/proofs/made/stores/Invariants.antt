@@ -1,6 +1,6 @@
 use Rattle.std.proofs.Common.{◌≡◌, ◌+◌, ◌≤◌, ◌++◌, length, map, vec_len, vec_capacity}
 use Rattle.cvl_calls.specs.Outcomes.{Stores, effect_of}
-use Rattle.cvl_calls.proofs.joining.group.products_of.Given as goal
+use Rattle.cvl_calls.proofs.made.stores.Given as goal
 
 abbrev pub invariant-loop-items : goal.invariant-loop-items
 invariant-loop-items g l = record {

@@ -1,7 +1,7 @@
 use Rattle.std.proofs.Common.{◌≡◌, ◌≤◌, length, map, take, vec_len, vec_capacity}
 use Rattle.cvl_text.specs.Answers.{BoolOf}
 use Rattle.cvl_calls.specs.Outcomes.{Answers, effect_of}
-use Rattle.cvl_calls.proofs.joining.reductions.bool_replies.Given as goal
+use Rattle.cvl_calls.proofs.made.bool_replies.Given as goal
 
 abbrev pub invariant-loop-item : goal.invariant-loop-item
 invariant-loop-item l = record {

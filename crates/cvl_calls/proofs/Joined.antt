@@ -1,0 +1,35 @@
+-- What a joined run takes and makes, one call after another (`made-more`), and of all of them (`vectors-made`, `replies-made`,
+-- `same-made`).
+use Rattle.std.proofs.Common.{◌≡◌, ◌∙◌, ◌+◌, ◌<◌, ◌++◌, ◌∷◌, [], ℕ, Global, List, Ok, Option, Result, Some, Vec, ap, get_or, length, map, refl, slice_get, sym, take}
+use Rattle.std.proofs.lemmas.List.{map_push, take_more}
+use Rattle.std.proofs.lemmas.Option.{get_or_from_slice_get}
+use Rattle.std.proofs.lemmas.Simd.{map-map}
+use Rattle.cvl_text.specs.declared.fault.Fault.{Fault}
+use Rattle.cvl_calls.specs.Outcomes.{Effect}
+
+abbrev pub ok : Effect → Result Effect Fault
+ok effect = Ok effect
+
+pub made-more : {P X : Type 0} (f : P → X) (done : List P) (p : P) (works : List X) (i : ℕ) → map f done ≡ take i works → slice_get works i ≡ Some (f p) → i < length works → map f (done ++ p ∷ []) ≡ take (i + 1) works
+made-more f done p works i so at lt =
+    map_push f done p ∙ ap (λ l. l ++ f p ∷ []) so ∙ ap (λ w. take i works ++ w ∷ []) (sym (get_or_from_slice_get works i (f p) (f p) at)) ∙ sym (take_more works i (f p) lt)
+
+pub vectors-made : {P X : Type 0} (store : List X → Effect) (mk : P → List X) (vs : List (Vec X Global)) (ps : List P) (works : List (Result Effect Fault)) → map (λ v. v.items) vs ≡ map mk ps → map (λ p. Ok (store (mk p))) ps ≡ works
+    → map (λ effect. Ok effect) (map (λ v. store v.items) vs) ≡ works
+vectors-made {X = X} store mk vs ps works same makes =
+    let said : List X → Result Effect Fault = λ items. ok (store items) in
+    map-map ok (λ v. store v.items) vs ∙ sym (map-map said (λ v. v.items) vs) ∙ ap (map said) same ∙ map-map said mk ps ∙ makes
+
+pub replies-made : {P X : Type 0} (say : X → Effect) (mk : P → X) (xs : List X) (ps : List P) (works : List (Result Effect Fault)) → xs ≡ map mk ps → map (λ p. Ok (say (mk p))) ps ≡ works → map (λ effect. Ok effect) (map say xs) ≡ works
+replies-made {X = X} say mk xs ps works same makes =
+    let said : X → Result Effect Fault = λ x. ok (say x) in
+    map-map ok say xs ∙ ap (map said) same ∙ map-map said mk ps ∙ makes
+
+pub same-made : {J : Type 0} (f : J → Effect) (effects : List Effect) (js : List J) → map (λ effect. ok effect) effects ≡ map (λ j. ok (f j)) js → effects ≡ map f js
+same-made f [] [] same = refl
+same-made f [] (j ∷ js) same = absurd cc
+same-made f (e ∷ es) [] same = absurd cc
+same-made f (e ∷ es) (j ∷ js) same =
+    let here : e ≡ f j = cc in
+    let rest : map (λ effect. ok effect) es ≡ map (λ j. ok (f j)) js = cc in
+    ap (λ x. x ∷ es) here ∙ ap (λ l. f j ∷ l) (same-made f es js rest)

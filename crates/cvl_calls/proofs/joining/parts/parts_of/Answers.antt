@@ -1,0 +1,27 @@
+use Rattle.std.proofs.Common.{arith, ◌≡◌, ◌<◌, All, Ok, Result, ap, length, map, subst, sym, ◌∙◌}
+use Rattle.std.proofs.lemmas.List.Elements.{All-push}
+use Rattle.cvl_text.specs.declared.fault.Fault.{Fault}
+use Rattle.cvl_calls.specs.Outcomes.{Effect, Stores}
+use Rattle.cvl_calls.proofs.Joined.{made-more}
+use Rattle.cvl_calls.proofs.joining.parts.parts_of.Goals as goal
+
+pub loop-place-preserved : goal.loop-place-preserved
+loop-place-preserved g c =
+    let works = g.G.Group.works c.args.group.now in
+    let f : g.row.P.Denot → Result Effect Fault = λ part. Ok (Stores (g.T.Stored.content (g.K.Kernel.makes c.args.kernel part))) in
+    let parts = c.loop-place.parts.items in
+    let i = c.loop-place.place in
+    let p = c.in_ok-part_at.field-0 in
+    let inv = c.loop-place.invariant in
+    let low = c.loop-place-test.true in
+    let end = c.count-count.ensures in
+    let items = c.push_reserved.ensures.items in
+    let pushed = c.push_reserved.ensures.len in
+    let long = inv.long in
+    let lt : i < length works = omega arith in
+    record {
+      takes = subst (All (g.K.Kernel.Takes c.args.kernel)) (sym items) (All-push (g.K.Kernel.Takes c.args.kernel) parts p inv.takes c.in_ok-part_at.ensures.takes);
+      makes = ap (map f) items ∙ made-more f parts p works i inv.makes c.in_ok-part_at.ensures.makes lt;
+      long = omega arith;
+      room = c.push_reserved.ensures.capacity ∙ inv.room;
+    }

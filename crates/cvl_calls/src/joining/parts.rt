@@ -1,0 +1,100 @@
+//! The operands of the calls of a group, as a joined kernel takes them.
+
+ghost use Rattle.std.specs.Prelude.{◌≡◌, Ok, Some, map, slice_get, All, IfOk};
+ghost use Rattle.std.specs.Thread.{IsSync};
+ghost use Rattle.cvl_text.specs.declared.word.Word.{Word};
+ghost use Rattle.cvl_text.specs.Tasks.{task_of};
+ghost use Rattle.cvl_calls.specs.Judging.{IsReady, JudgesBy, made, word_of};
+ghost use Rattle.cvl_calls.specs.Outcomes.{Stores};
+ghost use Rattle.cvl_calls.specs.Runs.{tests_index};
+ghost use Rattle.cvl_calls.specs.Steps.{work_on};
+
+use crate::joining::group::{Group, Item};
+use crate::judged::Judged;
+use crate::made::Stored;
+use crate::stop::Stop;
+use cvl_text::Call;
+use scan_kernels::{Execution, Kernel, Meter};
+use std::alloc::Global;
+use vector_memory::Memory;
+
+/// What calls are judged by.
+#[derive(Drop)]
+pub(crate) struct Judge<'m, 'a, E> {
+    pub(crate) execution: &'m E,
+    pub(crate) alloc: Global,
+    pub(crate) meter: &'m Meter,
+    pub(crate) memory: &'a Memory,
+}
+
+/// A kernel that runs the calls of a word, of which each stores a vector of such items.
+pub(crate) trait Joins<'a, P: Copy, T: Stored>: Kernel<P, Item = T> {
+    /// The word.
+    ghost word: { Self → Word };
+
+    /// Judges a call of this word.
+    fn judged<E: Execution>(self, judge: &Judge<'_, 'a, E>, call: &'a Call) -> Result<Judged<'a>, Stop>
+        requires shared { IsSync E.Shared.row }
+        requires word { (task_of call.now).word ≡ word self }
+        ensures judges { let task = task_of call.now in JudgesBy (tests_index task.word) task.word (work_on judge.now.memory.now task) result };
+
+    /// The operands of a call of this word.
+    fn part(self, judged: &Judged<'a>) -> P
+        requires word { word_of judged.now ≡ word self }
+        requires ready { IsReady judged.now }
+        ensures takes { Self.Takes self result }
+        ensures makes { made judged.now ≡ Stores (T.content (Self.makes self result)) };
+}
+
+/// The operands of the call at a place, unless it has a fault or memory is wanted.
+#[inline(always)]
+fn part_at<'a, P: Copy, T: Stored, K: Joins<'a, P, T>, G: Group>(
+    execution: &impl Execution,
+    alloc: Global,
+    meter: &Meter,
+    kernel: K,
+    group: &'a G,
+    place: usize,
+) -> Result<P, Stop>
+    requires alike { G.IsAlike group.now }
+    requires word { G.word group.now ≡ K.word kernel }
+    ensures takes { IfOk result (K.Takes kernel) }
+    ensures makes { IfOk result (λ part. slice_get (G.works group.now) place ≡ Some (Ok (Stores (T.content (K.makes kernel part))))) }
+{
+    match group.item(place) {
+        Some(Item::Judged(judged)) => Ok(kernel.part(&judged)),
+        Some(Item::Call(memory, call)) => {
+            let judge = Judge {
+                execution,
+                alloc,
+                meter,
+                memory,
+            };
+            let judged = kernel.judged(&judge, call)?;
+            Ok(kernel.part(&judged))
+        }
+        None => Err(Stop::OutOfMemory),
+    }
+}
+
+/// The operands of all calls.
+#[inline(always)]
+pub(crate) fn parts_of<'a, P: Copy, T: Stored, K: Joins<'a, P, T>, G: Group>(
+    execution: &impl Execution,
+    alloc: Global,
+    meter: &Meter,
+    kernel: K,
+    group: &'a G,
+) -> Result<Vec<P>, Stop>
+    requires alike { G.IsAlike group.now }
+    requires word { G.word group.now ≡ K.word kernel }
+    ensures takes { IfOk result (λ parts. All (K.Takes kernel) parts.items) }
+    ensures makes { IfOk result (λ parts. map (λ part. Ok (Stores (T.content (K.makes kernel part)))) parts.items ≡ G.works group.now) }
+{
+    let count = group.count();
+    let mut parts = Vec::with_capacity(alloc, count)?;
+    for place in 0..count {
+        parts.push_reserved(part_at(execution, alloc, meter, kernel, group, place)?);
+    }
+    Ok(parts)
+}
