@@ -17,8 +17,6 @@ mod scans;
 mod spreads;
 mod vectors;
 
-pub use group::{Group, Item};
-
 use crate::judged::Judged;
 use crate::made::{Made, products_of};
 use crate::product::Product;
@@ -26,6 +24,7 @@ use crate::shelves::Shelves;
 use crate::stop::Stop;
 use cvl_text::{AskWord, Kind, OneWord, ThreeWord, TwoWord, Word};
 use group::AllJudged;
+pub use group::{Group, Item};
 use permute_kernels::{
     BackPermute, Gather, Pack, PackLengths, PackSegments, Permute, PermuteWhole,
 };
@@ -183,33 +182,33 @@ fn two<G: Group>(
         TwoWord::MapZ2(op) => ints(execution, alloc, meter, shelves, op, group),
         TwoWord::CmpZ(op) => bools(execution, alloc, meter, shelves, op, group),
         TwoWord::MapB2(op) => bools(execution, alloc, meter, shelves, op, group),
-        TwoWord::ScanSegZ(op) => ints(
-            execution,
-            alloc,
-            meter,
-            shelves,
-            ScanIntSegments(op), group),
+        TwoWord::ScanSegZ(op) => ints(execution, alloc, meter, shelves, ScanIntSegments(op), group),
         TwoWord::ScanSegB(op) => bools(
             execution,
             alloc,
             meter,
             shelves,
-            ScanBoolSegments(op), group),
+            ScanBoolSegments(op),
+            group,
+        ),
         TwoWord::RedSegZ(op) => ints(
             execution,
             alloc,
             meter,
             shelves,
-            ReduceIntSegments(op), group),
+            ReduceIntSegments(op),
+            group,
+        ),
         TwoWord::RedSegB(op) => bools(
             execution,
             alloc,
             meter,
             shelves,
-            ReduceBoolSegments(op), group),
+            ReduceBoolSegments(op),
+            group,
+        ),
         TwoWord::DisSeg(Kind::Z) => ints(execution, alloc, meter, shelves, Distribute, group),
-        TwoWord::DisSeg(Kind::B) => bools(
-            execution, alloc, meter, shelves, Distribute, group),
+        TwoWord::DisSeg(Kind::B) => bools(execution, alloc, meter, shelves, Distribute, group),
         TwoWord::Smp(Kind::Z) => ints(execution, alloc, meter, shelves, PermuteWhole, group),
         TwoWord::Smp(Kind::B) => bools(execution, alloc, meter, shelves, PermuteWhole, group),
         TwoWord::Bck(Kind::Z) => ints(execution, alloc, meter, shelves, Gather, group),
@@ -240,18 +239,8 @@ fn three<G: Group>(
         ThreeWord::IndSeg => ints(execution, alloc, meter, shelves, IndexSegments, group),
         ThreeWord::SmpSeg(Kind::Z) => ints(execution, alloc, meter, shelves, Permute, group),
         ThreeWord::SmpSeg(Kind::B) => bools(execution, alloc, meter, shelves, Permute, group),
-        ThreeWord::PckSeg(Kind::Z) => ints(
-            execution,
-            alloc,
-            meter,
-            shelves,
-            PackSegments, group),
-        ThreeWord::PckSeg(Kind::B) => bools(
-            execution,
-            alloc,
-            meter,
-            shelves,
-            PackSegments, group),
+        ThreeWord::PckSeg(Kind::Z) => ints(execution, alloc, meter, shelves, PackSegments, group),
+        ThreeWord::PckSeg(Kind::B) => bools(execution, alloc, meter, shelves, PackSegments, group),
     }
 }
 

@@ -8,7 +8,10 @@ ghost use Rattle.cvl_text.specs.declared.word.Word.TheVariants as words;
 
 use crate::joining::parts::{Joins, Judge};
 use crate::judged::Judged;
-use crate::shapes::elementwise::{alter_bools, alter_ints, compare, map_bools, map_ints, numbers_of, select_bools, select_ints, truths_of};
+use crate::shapes::elementwise::{
+    alter_bools, alter_ints, compare, map_bools, map_ints, numbers_of, select_bools, select_ints,
+    truths_of,
+};
 use crate::stop::Stop;
 use cvl_text::{B1, B2, Call, Cmp, Kind, Z1, Z2};
 use scan_kernels::Execution;
@@ -19,7 +22,11 @@ impl<'a> Joins<'a, &'a [i64], i64> for Z1 {
     ghost word = { λ op. words.One (ones.MapZ1 op) };
 
     #[inline(always)]
-    fn judged<E: Execution>(self, judge: &Judge<'_, 'a, E>, call: &'a Call) -> Result<Judged<'a>, Stop> {
+    fn judged<E: Execution>(
+        self,
+        judge: &Judge<'_, 'a, E>,
+        call: &'a Call,
+    ) -> Result<Judged<'a>, Stop> {
         match call {
             Call::MapZ1 { op, a, .. } => Ok(alter_ints(judge.memory, *op, a)?),
             _ => unreachable!(),
@@ -40,7 +47,11 @@ impl<'a> Joins<'a, &'a [bool], bool> for B1 {
     ghost word = { λ op. words.One (ones.MapB1 op) };
 
     #[inline(always)]
-    fn judged<E: Execution>(self, judge: &Judge<'_, 'a, E>, call: &'a Call) -> Result<Judged<'a>, Stop> {
+    fn judged<E: Execution>(
+        self,
+        judge: &Judge<'_, 'a, E>,
+        call: &'a Call,
+    ) -> Result<Judged<'a>, Stop> {
         match call {
             Call::MapB1 { op, a, .. } => Ok(alter_bools(judge.memory, *op, a)?),
             _ => unreachable!(),
@@ -61,7 +72,11 @@ impl<'a> Joins<'a, &'a [i64], bool> for Truth {
     ghost word = { λ kernel. words.One ones.Boo };
 
     #[inline(always)]
-    fn judged<E: Execution>(self, judge: &Judge<'_, 'a, E>, call: &'a Call) -> Result<Judged<'a>, Stop> {
+    fn judged<E: Execution>(
+        self,
+        judge: &Judge<'_, 'a, E>,
+        call: &'a Call,
+    ) -> Result<Judged<'a>, Stop> {
         match call {
             Call::Boo { a, .. } => Ok(truths_of(judge.memory, a)?),
             _ => unreachable!(),
@@ -82,7 +97,11 @@ impl<'a> Joins<'a, &'a [bool], i64> for Number {
     ghost word = { λ kernel. words.One ones.IntOf };
 
     #[inline(always)]
-    fn judged<E: Execution>(self, judge: &Judge<'_, 'a, E>, call: &'a Call) -> Result<Judged<'a>, Stop> {
+    fn judged<E: Execution>(
+        self,
+        judge: &Judge<'_, 'a, E>,
+        call: &'a Call,
+    ) -> Result<Judged<'a>, Stop> {
         match call {
             Call::IntOf { a, .. } => Ok(numbers_of(judge.memory, a)?),
             _ => unreachable!(),
@@ -103,7 +122,11 @@ impl<'a> Joins<'a, (&'a [i64], &'a [i64]), i64> for Z2 {
     ghost word = { λ op. words.Two (twos.MapZ2 op) };
 
     #[inline(always)]
-    fn judged<E: Execution>(self, judge: &Judge<'_, 'a, E>, call: &'a Call) -> Result<Judged<'a>, Stop> {
+    fn judged<E: Execution>(
+        self,
+        judge: &Judge<'_, 'a, E>,
+        call: &'a Call,
+    ) -> Result<Judged<'a>, Stop> {
         match call {
             Call::MapZ2 { op, a, b, .. } => Ok(map_ints(judge.memory, *op, a, b)?),
             _ => unreachable!(),
@@ -124,7 +147,11 @@ impl<'a> Joins<'a, (&'a [i64], &'a [i64]), bool> for Cmp {
     ghost word = { λ op. words.Two (twos.CmpZ op) };
 
     #[inline(always)]
-    fn judged<E: Execution>(self, judge: &Judge<'_, 'a, E>, call: &'a Call) -> Result<Judged<'a>, Stop> {
+    fn judged<E: Execution>(
+        self,
+        judge: &Judge<'_, 'a, E>,
+        call: &'a Call,
+    ) -> Result<Judged<'a>, Stop> {
         match call {
             Call::CmpZ { op, a, b, .. } => Ok(compare(judge.memory, *op, a, b)?),
             _ => unreachable!(),
@@ -145,7 +172,11 @@ impl<'a> Joins<'a, (&'a [bool], &'a [bool]), bool> for B2 {
     ghost word = { λ op. words.Two (twos.MapB2 op) };
 
     #[inline(always)]
-    fn judged<E: Execution>(self, judge: &Judge<'_, 'a, E>, call: &'a Call) -> Result<Judged<'a>, Stop> {
+    fn judged<E: Execution>(
+        self,
+        judge: &Judge<'_, 'a, E>,
+        call: &'a Call,
+    ) -> Result<Judged<'a>, Stop> {
         match call {
             Call::MapB2 { op, a, b, .. } => Ok(map_bools(judge.memory, *op, a, b)?),
             _ => unreachable!(),
@@ -166,9 +197,19 @@ impl<'a> Joins<'a, (&'a [bool], &'a [i64], &'a [i64]), i64> for Select {
     ghost word = { λ kernel. words.Three (threes.Sel kinds.Z) };
 
     #[inline(always)]
-    fn judged<E: Execution>(self, judge: &Judge<'_, 'a, E>, call: &'a Call) -> Result<Judged<'a>, Stop> {
+    fn judged<E: Execution>(
+        self,
+        judge: &Judge<'_, 'a, E>,
+        call: &'a Call,
+    ) -> Result<Judged<'a>, Stop> {
         match call {
-            Call::Sel { kind: Kind::Z, f, a, b, .. } => Ok(select_ints(judge.memory, f, a, b)?),
+            Call::Sel {
+                kind: Kind::Z,
+                f,
+                a,
+                b,
+                ..
+            } => Ok(select_ints(judge.memory, f, a, b)?),
             _ => unreachable!(),
         }
     }
@@ -187,9 +228,19 @@ impl<'a> Joins<'a, (&'a [bool], &'a [bool], &'a [bool]), bool> for Select {
     ghost word = { λ kernel. words.Three (threes.Sel kinds.B) };
 
     #[inline(always)]
-    fn judged<E: Execution>(self, judge: &Judge<'_, 'a, E>, call: &'a Call) -> Result<Judged<'a>, Stop> {
+    fn judged<E: Execution>(
+        self,
+        judge: &Judge<'_, 'a, E>,
+        call: &'a Call,
+    ) -> Result<Judged<'a>, Stop> {
         match call {
-            Call::Sel { kind: Kind::B, f, a, b, .. } => Ok(select_bools(judge.memory, f, a, b)?),
+            Call::Sel {
+                kind: Kind::B,
+                f,
+                a,
+                b,
+                ..
+            } => Ok(select_bools(judge.memory, f, a, b)?),
             _ => unreachable!(),
         }
     }

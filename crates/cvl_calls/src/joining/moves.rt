@@ -7,9 +7,9 @@ ghost use Rattle.cvl_text.specs.declared.word.Word.TheVariants as words;
 
 use crate::joining::parts::{Joins, Judge};
 use crate::judged::Judged;
+use crate::operands::Vector;
 use crate::shapes::moves::{gather, gather_segments, permute, permute_segments};
 use crate::stop::Stop;
-use crate::operands::Vector;
 use cvl_text::{Call, Kind};
 use permute_kernels::{BackPermute, Gather, Permute, PermuteWhole};
 use scan_kernels::Execution;
@@ -20,9 +20,26 @@ impl<'a> Joins<'a, (&'a [i64], &'a [i64]), i64> for PermuteWhole {
     ghost word = { λ kernel. words.Two (twos.Smp kinds.Z) };
 
     #[inline(always)]
-    fn judged<E: Execution>(self, judge: &Judge<'_, 'a, E>, call: &'a Call) -> Result<Judged<'a>, Stop> {
+    fn judged<E: Execution>(
+        self,
+        judge: &Judge<'_, 'a, E>,
+        call: &'a Call,
+    ) -> Result<Judged<'a>, Stop> {
         match call {
-            Call::Smp { kind: Kind::Z, a, i, .. } => permute(judge.execution, judge.alloc, judge.meter, judge.memory, Kind::Z, a, i),
+            Call::Smp {
+                kind: Kind::Z,
+                a,
+                i,
+                ..
+            } => permute(
+                judge.execution,
+                judge.alloc,
+                judge.meter,
+                judge.memory,
+                Kind::Z,
+                a,
+                i,
+            ),
             _ => unreachable!(),
         }
     }
@@ -41,9 +58,28 @@ impl<'a> Joins<'a, (&'a [i64], &'a [i64], &'a Segd), i64> for Permute {
     ghost word = { λ kernel. words.Three (threes.SmpSeg kinds.Z) };
 
     #[inline(always)]
-    fn judged<E: Execution>(self, judge: &Judge<'_, 'a, E>, call: &'a Call) -> Result<Judged<'a>, Stop> {
+    fn judged<E: Execution>(
+        self,
+        judge: &Judge<'_, 'a, E>,
+        call: &'a Call,
+    ) -> Result<Judged<'a>, Stop> {
         match call {
-            Call::SmpSeg { kind: Kind::Z, a, i, s, .. } => permute_segments(judge.execution, judge.alloc, judge.meter, judge.memory, Kind::Z, a, i, s),
+            Call::SmpSeg {
+                kind: Kind::Z,
+                a,
+                i,
+                s,
+                ..
+            } => permute_segments(
+                judge.execution,
+                judge.alloc,
+                judge.meter,
+                judge.memory,
+                Kind::Z,
+                a,
+                i,
+                s,
+            ),
             _ => unreachable!(),
         }
     }
@@ -64,9 +100,18 @@ impl<'a> Joins<'a, (&'a [i64], &'a [i64]), i64> for Gather {
     ghost word = { λ kernel. words.Two (twos.Bck kinds.Z) };
 
     #[inline(always)]
-    fn judged<E: Execution>(self, judge: &Judge<'_, 'a, E>, call: &'a Call) -> Result<Judged<'a>, Stop> {
+    fn judged<E: Execution>(
+        self,
+        judge: &Judge<'_, 'a, E>,
+        call: &'a Call,
+    ) -> Result<Judged<'a>, Stop> {
         match call {
-            Call::Bck { kind: Kind::Z, a, i, .. } => Ok(gather(judge.execution, judge.meter, judge.memory, Kind::Z, a, i)?),
+            Call::Bck {
+                kind: Kind::Z,
+                a,
+                i,
+                ..
+            } => Ok(gather(judge.execution, judge.meter, judge.memory, Kind::Z, a, i)?),
             _ => unreachable!(),
         }
     }
@@ -85,9 +130,28 @@ impl<'a> Joins<'a, (&'a [i64], &'a Segd, &'a [i64], &'a Segd), i64> for BackPerm
     ghost word = { λ kernel. words.BckSeg kinds.Z };
 
     #[inline(always)]
-    fn judged<E: Execution>(self, judge: &Judge<'_, 'a, E>, call: &'a Call) -> Result<Judged<'a>, Stop> {
+    fn judged<E: Execution>(
+        self,
+        judge: &Judge<'_, 'a, E>,
+        call: &'a Call,
+    ) -> Result<Judged<'a>, Stop> {
         match call {
-            Call::BckSeg { kind: Kind::Z, a, s, index, .. } => Ok(gather_segments(judge.execution, judge.meter, judge.memory, Kind::Z, a, s, &index.i, &index.t)?),
+            Call::BckSeg {
+                kind: Kind::Z,
+                a,
+                s,
+                index,
+                ..
+            } => Ok(gather_segments(
+                judge.execution,
+                judge.meter,
+                judge.memory,
+                Kind::Z,
+                a,
+                s,
+                &index.i,
+                &index.t,
+            )?),
             _ => unreachable!(),
         }
     }
@@ -108,9 +172,26 @@ impl<'a> Joins<'a, (&'a [bool], &'a [i64]), bool> for PermuteWhole {
     ghost word = { λ kernel. words.Two (twos.Smp kinds.B) };
 
     #[inline(always)]
-    fn judged<E: Execution>(self, judge: &Judge<'_, 'a, E>, call: &'a Call) -> Result<Judged<'a>, Stop> {
+    fn judged<E: Execution>(
+        self,
+        judge: &Judge<'_, 'a, E>,
+        call: &'a Call,
+    ) -> Result<Judged<'a>, Stop> {
         match call {
-            Call::Smp { kind: Kind::B, a, i, .. } => permute(judge.execution, judge.alloc, judge.meter, judge.memory, Kind::B, a, i),
+            Call::Smp {
+                kind: Kind::B,
+                a,
+                i,
+                ..
+            } => permute(
+                judge.execution,
+                judge.alloc,
+                judge.meter,
+                judge.memory,
+                Kind::B,
+                a,
+                i,
+            ),
             _ => unreachable!(),
         }
     }
@@ -129,9 +210,28 @@ impl<'a> Joins<'a, (&'a [bool], &'a [i64], &'a Segd), bool> for Permute {
     ghost word = { λ kernel. words.Three (threes.SmpSeg kinds.B) };
 
     #[inline(always)]
-    fn judged<E: Execution>(self, judge: &Judge<'_, 'a, E>, call: &'a Call) -> Result<Judged<'a>, Stop> {
+    fn judged<E: Execution>(
+        self,
+        judge: &Judge<'_, 'a, E>,
+        call: &'a Call,
+    ) -> Result<Judged<'a>, Stop> {
         match call {
-            Call::SmpSeg { kind: Kind::B, a, i, s, .. } => permute_segments(judge.execution, judge.alloc, judge.meter, judge.memory, Kind::B, a, i, s),
+            Call::SmpSeg {
+                kind: Kind::B,
+                a,
+                i,
+                s,
+                ..
+            } => permute_segments(
+                judge.execution,
+                judge.alloc,
+                judge.meter,
+                judge.memory,
+                Kind::B,
+                a,
+                i,
+                s,
+            ),
             _ => unreachable!(),
         }
     }
@@ -152,9 +252,18 @@ impl<'a> Joins<'a, (&'a [bool], &'a [i64]), bool> for Gather {
     ghost word = { λ kernel. words.Two (twos.Bck kinds.B) };
 
     #[inline(always)]
-    fn judged<E: Execution>(self, judge: &Judge<'_, 'a, E>, call: &'a Call) -> Result<Judged<'a>, Stop> {
+    fn judged<E: Execution>(
+        self,
+        judge: &Judge<'_, 'a, E>,
+        call: &'a Call,
+    ) -> Result<Judged<'a>, Stop> {
         match call {
-            Call::Bck { kind: Kind::B, a, i, .. } => Ok(gather(judge.execution, judge.meter, judge.memory, Kind::B, a, i)?),
+            Call::Bck {
+                kind: Kind::B,
+                a,
+                i,
+                ..
+            } => Ok(gather(judge.execution, judge.meter, judge.memory, Kind::B, a, i)?),
             _ => unreachable!(),
         }
     }
@@ -173,9 +282,28 @@ impl<'a> Joins<'a, (&'a [bool], &'a Segd, &'a [i64], &'a Segd), bool> for BackPe
     ghost word = { λ kernel. words.BckSeg kinds.B };
 
     #[inline(always)]
-    fn judged<E: Execution>(self, judge: &Judge<'_, 'a, E>, call: &'a Call) -> Result<Judged<'a>, Stop> {
+    fn judged<E: Execution>(
+        self,
+        judge: &Judge<'_, 'a, E>,
+        call: &'a Call,
+    ) -> Result<Judged<'a>, Stop> {
         match call {
-            Call::BckSeg { kind: Kind::B, a, s, index, .. } => Ok(gather_segments(judge.execution, judge.meter, judge.memory, Kind::B, a, s, &index.i, &index.t)?),
+            Call::BckSeg {
+                kind: Kind::B,
+                a,
+                s,
+                index,
+                ..
+            } => Ok(gather_segments(
+                judge.execution,
+                judge.meter,
+                judge.memory,
+                Kind::B,
+                a,
+                s,
+                &index.i,
+                &index.t,
+            )?),
             _ => unreachable!(),
         }
     }

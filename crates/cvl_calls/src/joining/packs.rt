@@ -7,9 +7,9 @@ ghost use Rattle.cvl_text.specs.declared.word.Word.TheVariants as words;
 
 use crate::joining::parts::{Joins, Judge};
 use crate::judged::Judged;
+use crate::operands::Vector;
 use crate::shapes::packs::{pack, pack_lengths, pack_segments};
 use crate::stop::Stop;
-use crate::operands::Vector;
 use cvl_text::{Call, Kind};
 use permute_kernels::{Pack, PackLengths, PackSegments};
 use scan_kernels::Execution;
@@ -20,9 +20,18 @@ impl<'a> Joins<'a, (&'a [i64], &'a [bool]), i64> for Pack {
     ghost word = { λ kernel. words.Two (twos.Pck kinds.Z) };
 
     #[inline(always)]
-    fn judged<E: Execution>(self, judge: &Judge<'_, 'a, E>, call: &'a Call) -> Result<Judged<'a>, Stop> {
+    fn judged<E: Execution>(
+        self,
+        judge: &Judge<'_, 'a, E>,
+        call: &'a Call,
+    ) -> Result<Judged<'a>, Stop> {
         match call {
-            Call::Pck { kind: Kind::Z, a, f, .. } => Ok(pack(judge.memory, Kind::Z, a, f)?),
+            Call::Pck {
+                kind: Kind::Z,
+                a,
+                f,
+                ..
+            } => Ok(pack(judge.memory, Kind::Z, a, f)?),
             _ => unreachable!(),
         }
     }
@@ -41,9 +50,19 @@ impl<'a> Joins<'a, (&'a [i64], &'a [bool], &'a Segd), i64> for PackSegments {
     ghost word = { λ kernel. words.Three (threes.PckSeg kinds.Z) };
 
     #[inline(always)]
-    fn judged<E: Execution>(self, judge: &Judge<'_, 'a, E>, call: &'a Call) -> Result<Judged<'a>, Stop> {
+    fn judged<E: Execution>(
+        self,
+        judge: &Judge<'_, 'a, E>,
+        call: &'a Call,
+    ) -> Result<Judged<'a>, Stop> {
         match call {
-            Call::PckSeg { kind: Kind::Z, a, f, s, .. } => Ok(pack_segments(judge.memory, Kind::Z, a, f, s)?),
+            Call::PckSeg {
+                kind: Kind::Z,
+                a,
+                f,
+                s,
+                ..
+            } => Ok(pack_segments(judge.memory, Kind::Z, a, f, s)?),
             _ => unreachable!(),
         }
     }
@@ -62,9 +81,18 @@ impl<'a> Joins<'a, (&'a [bool], &'a [bool]), bool> for Pack {
     ghost word = { λ kernel. words.Two (twos.Pck kinds.B) };
 
     #[inline(always)]
-    fn judged<E: Execution>(self, judge: &Judge<'_, 'a, E>, call: &'a Call) -> Result<Judged<'a>, Stop> {
+    fn judged<E: Execution>(
+        self,
+        judge: &Judge<'_, 'a, E>,
+        call: &'a Call,
+    ) -> Result<Judged<'a>, Stop> {
         match call {
-            Call::Pck { kind: Kind::B, a, f, .. } => Ok(pack(judge.memory, Kind::B, a, f)?),
+            Call::Pck {
+                kind: Kind::B,
+                a,
+                f,
+                ..
+            } => Ok(pack(judge.memory, Kind::B, a, f)?),
             _ => unreachable!(),
         }
     }
@@ -83,9 +111,19 @@ impl<'a> Joins<'a, (&'a [bool], &'a [bool], &'a Segd), bool> for PackSegments {
     ghost word = { λ kernel. words.Three (threes.PckSeg kinds.B) };
 
     #[inline(always)]
-    fn judged<E: Execution>(self, judge: &Judge<'_, 'a, E>, call: &'a Call) -> Result<Judged<'a>, Stop> {
+    fn judged<E: Execution>(
+        self,
+        judge: &Judge<'_, 'a, E>,
+        call: &'a Call,
+    ) -> Result<Judged<'a>, Stop> {
         match call {
-            Call::PckSeg { kind: Kind::B, a, f, s, .. } => Ok(pack_segments(judge.memory, Kind::B, a, f, s)?),
+            Call::PckSeg {
+                kind: Kind::B,
+                a,
+                f,
+                s,
+                ..
+            } => Ok(pack_segments(judge.memory, Kind::B, a, f, s)?),
             _ => unreachable!(),
         }
     }
@@ -104,7 +142,11 @@ impl<'a> Joins<'a, (&'a [bool], &'a Segd), i64> for PackLengths {
     ghost word = { λ kernel. words.Two twos.Pkl };
 
     #[inline(always)]
-    fn judged<E: Execution>(self, judge: &Judge<'_, 'a, E>, call: &'a Call) -> Result<Judged<'a>, Stop> {
+    fn judged<E: Execution>(
+        self,
+        judge: &Judge<'_, 'a, E>,
+        call: &'a Call,
+    ) -> Result<Judged<'a>, Stop> {
         match call {
             Call::Pkl { f, s, .. } => Ok(pack_lengths(judge.memory, f, s)?),
             _ => unreachable!(),

@@ -33,7 +33,11 @@ pub(crate) trait Joins<'a, P: Copy, T: Stored>: Kernel<P, Item = T> {
     ghost word: { Self → Word };
 
     /// Judges a call of this word.
-    fn judged<E: Execution>(self, judge: &Judge<'_, 'a, E>, call: &'a Call) -> Result<Judged<'a>, Stop>
+    fn judged<E: Execution>(
+        self,
+        judge: &Judge<'_, 'a, E>,
+        call: &'a Call,
+    ) -> Result<Judged<'a>, Stop>
         requires shared { IsSync E.Shared.row }
         requires word { (task_of call.now).word ≡ word self }
         ensures judges { let task = task_of call.now in JudgesBy (tests_index task.word) task.word (work_on judge.now.memory.now task) result };

@@ -58,11 +58,7 @@ fn ints_at<'a, G: Group>(op: ScanZ, group: &'a G, place: usize) -> Result<&'a [i
 }
 
 /// The integers of each call.
-fn ints_of<'a, G: Group>(
-    alloc: Global,
-    op: ScanZ,
-    group: &'a G,
-) -> Result<Vec<&'a [i64]>, Stop>
+fn ints_of<'a, G: Group>(alloc: Global, op: ScanZ, group: &'a G) -> Result<Vec<&'a [i64]>, Stop>
     requires alike { G.IsAlike group.now }
     requires word { G.word group.now ≡ words.Ask (asks.RedZ op) }
     ensures makes { IfOk result (λ parts. map (λ p. Ok (Answers (IntOf (reduced (combine_z op) (unit_z op) p.now)))) parts.items ≡ G.works group.now) }
@@ -112,11 +108,7 @@ fn bools_at<'a, G: Group>(op: ScanB, group: &'a G, place: usize) -> Result<&'a [
 }
 
 /// The truth values of each call.
-fn bools_of<'a, G: Group>(
-    alloc: Global,
-    op: ScanB,
-    group: &'a G,
-) -> Result<Vec<&'a [bool]>, Stop>
+fn bools_of<'a, G: Group>(alloc: Global, op: ScanB, group: &'a G) -> Result<Vec<&'a [bool]>, Stop>
     requires alike { G.IsAlike group.now }
     requires word { G.word group.now ≡ words.Ask (asks.RedB op) }
     ensures makes { IfOk result (λ parts. map (λ p. Ok (Answers (BoolOf (reduced (combine_b op) (unit_b op) p.now)))) parts.items ≡ G.works group.now) }

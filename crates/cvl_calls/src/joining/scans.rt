@@ -6,7 +6,10 @@ ghost use Rattle.cvl_text.specs.declared.word.Word.TheVariants as words;
 
 use crate::joining::parts::{Joins, Judge};
 use crate::judged::Judged;
-use crate::shapes::scans::{reduce_bool_segments, reduce_int_segments, scan_bool_segments, scan_bools, scan_int_segments, scan_ints};
+use crate::shapes::scans::{
+    reduce_bool_segments, reduce_int_segments, scan_bool_segments, scan_bools, scan_int_segments,
+    scan_ints,
+};
 use crate::stop::Stop;
 use cvl_text::Call;
 use scan_kernels::Execution;
@@ -20,7 +23,11 @@ impl<'a> Joins<'a, &'a [i64], i64> for ScanInts {
     ghost word = { λ op. words.One (ones.ScanZ op.0) };
 
     #[inline(always)]
-    fn judged<E: Execution>(self, judge: &Judge<'_, 'a, E>, call: &'a Call) -> Result<Judged<'a>, Stop> {
+    fn judged<E: Execution>(
+        self,
+        judge: &Judge<'_, 'a, E>,
+        call: &'a Call,
+    ) -> Result<Judged<'a>, Stop> {
         match call {
             Call::ScanOfZ { op, a, s: None, .. } => Ok(scan_ints(judge.memory, *op, a)?),
             _ => unreachable!(),
@@ -41,9 +48,18 @@ impl<'a> Joins<'a, (&'a [i64], &'a Segd), i64> for ScanIntSegments {
     ghost word = { λ op. words.Two (twos.ScanSegZ op.0) };
 
     #[inline(always)]
-    fn judged<E: Execution>(self, judge: &Judge<'_, 'a, E>, call: &'a Call) -> Result<Judged<'a>, Stop> {
+    fn judged<E: Execution>(
+        self,
+        judge: &Judge<'_, 'a, E>,
+        call: &'a Call,
+    ) -> Result<Judged<'a>, Stop> {
         match call {
-            Call::ScanOfZ { op, a, s: Some(s), .. } => Ok(scan_int_segments(judge.memory, *op, a, s)?),
+            Call::ScanOfZ {
+                op,
+                a,
+                s: Some(s),
+                ..
+            } => Ok(scan_int_segments(judge.memory, *op, a, s)?),
             _ => unreachable!(),
         }
     }
@@ -62,7 +78,11 @@ impl<'a> Joins<'a, (&'a [i64], &'a Segd), i64> for ReduceIntSegments {
     ghost word = { λ op. words.Two (twos.RedSegZ op.0) };
 
     #[inline(always)]
-    fn judged<E: Execution>(self, judge: &Judge<'_, 'a, E>, call: &'a Call) -> Result<Judged<'a>, Stop> {
+    fn judged<E: Execution>(
+        self,
+        judge: &Judge<'_, 'a, E>,
+        call: &'a Call,
+    ) -> Result<Judged<'a>, Stop> {
         match call {
             Call::RedSegZ { op, a, s, .. } => Ok(reduce_int_segments(judge.memory, *op, a, s)?),
             _ => unreachable!(),
@@ -83,7 +103,11 @@ impl<'a> Joins<'a, &'a [bool], bool> for ScanBools {
     ghost word = { λ op. words.One (ones.ScanB op.0) };
 
     #[inline(always)]
-    fn judged<E: Execution>(self, judge: &Judge<'_, 'a, E>, call: &'a Call) -> Result<Judged<'a>, Stop> {
+    fn judged<E: Execution>(
+        self,
+        judge: &Judge<'_, 'a, E>,
+        call: &'a Call,
+    ) -> Result<Judged<'a>, Stop> {
         match call {
             Call::ScanOfB { op, a, s: None, .. } => Ok(scan_bools(judge.memory, *op, a)?),
             _ => unreachable!(),
@@ -104,9 +128,18 @@ impl<'a> Joins<'a, (&'a [bool], &'a Segd), bool> for ScanBoolSegments {
     ghost word = { λ op. words.Two (twos.ScanSegB op.0) };
 
     #[inline(always)]
-    fn judged<E: Execution>(self, judge: &Judge<'_, 'a, E>, call: &'a Call) -> Result<Judged<'a>, Stop> {
+    fn judged<E: Execution>(
+        self,
+        judge: &Judge<'_, 'a, E>,
+        call: &'a Call,
+    ) -> Result<Judged<'a>, Stop> {
         match call {
-            Call::ScanOfB { op, a, s: Some(s), .. } => Ok(scan_bool_segments(judge.memory, *op, a, s)?),
+            Call::ScanOfB {
+                op,
+                a,
+                s: Some(s),
+                ..
+            } => Ok(scan_bool_segments(judge.memory, *op, a, s)?),
             _ => unreachable!(),
         }
     }
@@ -125,7 +158,11 @@ impl<'a> Joins<'a, (&'a [bool], &'a Segd), bool> for ReduceBoolSegments {
     ghost word = { λ op. words.Two (twos.RedSegB op.0) };
 
     #[inline(always)]
-    fn judged<E: Execution>(self, judge: &Judge<'_, 'a, E>, call: &'a Call) -> Result<Judged<'a>, Stop> {
+    fn judged<E: Execution>(
+        self,
+        judge: &Judge<'_, 'a, E>,
+        call: &'a Call,
+    ) -> Result<Judged<'a>, Stop> {
         match call {
             Call::RedSegB { op, a, s, .. } => Ok(reduce_bool_segments(judge.memory, *op, a, s)?),
             _ => unreachable!(),

@@ -7,9 +7,9 @@ ghost use Rattle.cvl_text.specs.declared.word.Word.TheVariants as words;
 
 use crate::joining::parts::{Joins, Judge};
 use crate::judged::Judged;
+use crate::operands::Vector;
 use crate::shapes::spreads::{distribute, index, index_segments, repeat_bool, repeat_int};
 use crate::stop::Stop;
-use crate::operands::Vector;
 use cvl_text::{Call, Kind};
 use scan_kernels::Execution;
 use scan_kernels::joined::{Distribute, Index, IndexSegments, Repeat};
@@ -21,7 +21,11 @@ impl<'a> Joins<'a, (i64, usize), i64> for Repeat {
     ghost word = { λ kernel. words.DisZ };
 
     #[inline(always)]
-    fn judged<E: Execution>(self, judge: &Judge<'_, 'a, E>, call: &'a Call) -> Result<Judged<'a>, Stop> {
+    fn judged<E: Execution>(
+        self,
+        judge: &Judge<'_, 'a, E>,
+        call: &'a Call,
+    ) -> Result<Judged<'a>, Stop> {
         match call {
             Call::DisZ { x, n, .. } => Ok(repeat_int(judge.memory.limit(), *x, *n)?),
             _ => unreachable!(),
@@ -42,9 +46,18 @@ impl<'a> Joins<'a, (&'a [i64], &'a Segd), i64> for Distribute {
     ghost word = { λ kernel. words.Two (twos.DisSeg kinds.Z) };
 
     #[inline(always)]
-    fn judged<E: Execution>(self, judge: &Judge<'_, 'a, E>, call: &'a Call) -> Result<Judged<'a>, Stop> {
+    fn judged<E: Execution>(
+        self,
+        judge: &Judge<'_, 'a, E>,
+        call: &'a Call,
+    ) -> Result<Judged<'a>, Stop> {
         match call {
-            Call::DisSeg { kind: Kind::Z, a, s, .. } => Ok(distribute(judge.memory, Kind::Z, a, s)?),
+            Call::DisSeg {
+                kind: Kind::Z,
+                a,
+                s,
+                ..
+            } => Ok(distribute(judge.memory, Kind::Z, a, s)?),
             _ => unreachable!(),
         }
     }
@@ -63,7 +76,11 @@ impl<'a> Joins<'a, (bool, usize), bool> for Repeat {
     ghost word = { λ kernel. words.DisB };
 
     #[inline(always)]
-    fn judged<E: Execution>(self, judge: &Judge<'_, 'a, E>, call: &'a Call) -> Result<Judged<'a>, Stop> {
+    fn judged<E: Execution>(
+        self,
+        judge: &Judge<'_, 'a, E>,
+        call: &'a Call,
+    ) -> Result<Judged<'a>, Stop> {
         match call {
             Call::DisB { x, n, .. } => Ok(repeat_bool(judge.memory.limit(), *x, *n)?),
             _ => unreachable!(),
@@ -84,9 +101,18 @@ impl<'a> Joins<'a, (&'a [bool], &'a Segd), bool> for Distribute {
     ghost word = { λ kernel. words.Two (twos.DisSeg kinds.B) };
 
     #[inline(always)]
-    fn judged<E: Execution>(self, judge: &Judge<'_, 'a, E>, call: &'a Call) -> Result<Judged<'a>, Stop> {
+    fn judged<E: Execution>(
+        self,
+        judge: &Judge<'_, 'a, E>,
+        call: &'a Call,
+    ) -> Result<Judged<'a>, Stop> {
         match call {
-            Call::DisSeg { kind: Kind::B, a, s, .. } => Ok(distribute(judge.memory, Kind::B, a, s)?),
+            Call::DisSeg {
+                kind: Kind::B,
+                a,
+                s,
+                ..
+            } => Ok(distribute(judge.memory, Kind::B, a, s)?),
             _ => unreachable!(),
         }
     }
@@ -105,7 +131,11 @@ impl<'a> Joins<'a, (i64, i64, usize), i64> for Index {
     ghost word = { λ kernel. words.Ind };
 
     #[inline(always)]
-    fn judged<E: Execution>(self, judge: &Judge<'_, 'a, E>, call: &'a Call) -> Result<Judged<'a>, Stop> {
+    fn judged<E: Execution>(
+        self,
+        judge: &Judge<'_, 'a, E>,
+        call: &'a Call,
+    ) -> Result<Judged<'a>, Stop> {
         match call {
             Call::Ind { u, v, n, .. } => {
                 memories_are_lawful(judge.memory);
@@ -129,7 +159,11 @@ impl<'a> Joins<'a, (&'a [i64], &'a [i64], &'a Segd), i64> for IndexSegments {
     ghost word = { λ kernel. words.Three threes.IndSeg };
 
     #[inline(always)]
-    fn judged<E: Execution>(self, judge: &Judge<'_, 'a, E>, call: &'a Call) -> Result<Judged<'a>, Stop> {
+    fn judged<E: Execution>(
+        self,
+        judge: &Judge<'_, 'a, E>,
+        call: &'a Call,
+    ) -> Result<Judged<'a>, Stop> {
         match call {
             Call::IndSeg { a, b, s, .. } => Ok(index_segments(judge.memory, a, b, s)?),
             _ => unreachable!(),

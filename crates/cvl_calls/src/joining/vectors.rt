@@ -10,9 +10,7 @@ use crate::joining::parts::{Joins, parts_of};
 use crate::made::Made;
 use crate::shelves::Shelves;
 use crate::stop::Stop;
-use scan_kernels::{
-    BoolKernel, Execution, IntKernel, Meter, run_joined_bools, run_joined_ints,
-};
+use scan_kernels::{BoolKernel, Execution, IntKernel, Meter, run_joined_bools, run_joined_ints};
 use segment_desc::OutOfMemory;
 use std::alloc::Global;
 
