@@ -1,6 +1,6 @@
 //! What a joined run makes of calls of one word.
 
-ghost use Rattle.std.specs.Prelude.{[], ◌≡◌, ◌≤◌, ◌++◌, List, length, map, vec_capacity, vec_len};
+ghost use Rattle.std.specs.Prelude.{[], ◌≡◌, ◌≤◌, List, length, map, vec_capacity, vec_len};
 ghost use Rattle.cvl_text.specs.Answers.{BoolOf, IntOf};
 ghost use Rattle.vector_memory.specs.Contents.{Content, content_of};
 ghost use Rattle.vector_memory.specs.Contents as contents;

@@ -1,6 +1,6 @@
 //! Reductions of all items, of which each is a reply.
 
-ghost use Rattle.std.specs.Prelude.{◌≡◌, Ok, Some, length, map, slice_get, IfOk};
+ghost use Rattle.std.specs.Prelude.{◌≡◌, Ok, Some, map, slice_get, IfOk};
 ghost use Rattle.item_operations.specs.BooleanScans.{combine_b, unit_b};
 ghost use Rattle.item_operations.specs.IntegerScans.{combine_z, unit_z};
 ghost use Rattle.scan_kernels.specs.Metering.{CountsRun};
