@@ -1,6 +1,7 @@
 //! Alike calls, run together: one kernel run over their joined operands, which are gathered and not copied.
 
-ghost use Rattle.std.specs.Prelude.{◌≡◌, Ok, map, All, IfOk, IsTrue};
+ghost use Rattle.std.specs.Prelude.{◌≡◌, ℕ, Err, Ok, Some, map, slice_get, All, IfOk, IsTrue};
+ghost use Rattle.cvl_text.specs.declared.fault.Fault.{Fault};
 ghost use Rattle.scan_kernels.specs.Metering.{CountsRun};
 ghost use Rattle.cvl_calls.specs.Joined.{effects_of};
 ghost use Rattle.cvl_calls.specs.Judging.{IsReady, made, word_of};
@@ -94,6 +95,7 @@ pub fn run_group<G: Group>(
     requires word { G.word group.now ≡ word }
     requires kernel { IsTrue (runs_kernel word) }
     ensures makes { IfOk result (λ made. map (λ effect. Ok effect) (effects_of made) ≡ G.works group.now) }
+    ensures fault { (fault : Fault) → result ≡ Err (Stop.Fault fault) → (place : ℕ) × (slice_get (G.works group.now) place ≡ Some (Err fault)) }
     ensures counted { CountsRun result meter.old meter.new }
 {
     match word {
@@ -125,6 +127,7 @@ fn ask<G: Group>(
     requires word { G.word group.now ≡ Word.Ask word }
     requires kernel { IsTrue (runs_kernel (Word.Ask word)) }
     ensures makes { IfOk result (λ made. map (λ effect. Ok effect) (effects_of made) ≡ G.works group.now) }
+    ensures fault { (fault : Fault) → result ≡ Err (Stop.Fault fault) → (place : ℕ) × (slice_get (G.works group.now) place ≡ Some (Err fault)) }
     ensures counted { CountsRun result meter.old meter.new }
 {
     match word {
@@ -149,6 +152,7 @@ fn one<G: Group>(
     requires kernel { IsTrue (runs_kernel (G.word group.now)) }
     requires word { G.word group.now ≡ Word.One inner }
     ensures makes { IfOk result (λ made. map (λ effect. Ok effect) (effects_of made) ≡ G.works group.now) }
+    ensures fault { (fault : Fault) → result ≡ Err (Stop.Fault fault) → (place : ℕ) × (slice_get (G.works group.now) place ≡ Some (Err fault)) }
     ensures counted { CountsRun result meter.old meter.new }
 {
     match inner {
@@ -176,6 +180,7 @@ fn two<G: Group>(
     requires alike { G.IsAlike group.now }
     requires word { G.word group.now ≡ Word.Two inner }
     ensures makes { IfOk result (λ made. map (λ effect. Ok effect) (effects_of made) ≡ G.works group.now) }
+    ensures fault { (fault : Fault) → result ≡ Err (Stop.Fault fault) → (place : ℕ) × (slice_get (G.works group.now) place ≡ Some (Err fault)) }
     ensures counted { CountsRun result meter.old meter.new }
 {
     match inner {
@@ -231,6 +236,7 @@ fn three<G: Group>(
     requires alike { G.IsAlike group.now }
     requires word { G.word group.now ≡ Word.Three inner }
     ensures makes { IfOk result (λ made. map (λ effect. Ok effect) (effects_of made) ≡ G.works group.now) }
+    ensures fault { (fault : Fault) → result ≡ Err (Stop.Fault fault) → (place : ℕ) × (slice_get (G.works group.now) place ≡ Some (Err fault)) }
     ensures counted { CountsRun result meter.old meter.new }
 {
     match inner {
@@ -256,6 +262,7 @@ fn four<G: Group>(
     requires alike { G.IsAlike group.now }
     requires word { G.word group.now ≡ Word.BckSeg kind }
     ensures makes { IfOk result (λ made. map (λ effect. Ok effect) (effects_of made) ≡ G.works group.now) }
+    ensures fault { (fault : Fault) → result ≡ Err (Stop.Fault fault) → (place : ℕ) × (slice_get (G.works group.now) place ≡ Some (Err fault)) }
     ensures counted { CountsRun result meter.old meter.new }
 {
     match kind {

@@ -1,7 +1,8 @@
 //! The operands of the calls of a group, as a joined kernel takes them.
 
-ghost use Rattle.std.specs.Prelude.{◌≡◌, Ok, Some, map, slice_get, All, IfOk};
+ghost use Rattle.std.specs.Prelude.{◌≡◌, ℕ, Err, Ok, Some, map, slice_get, All, IfOk};
 ghost use Rattle.std.specs.Thread.{IsSync};
+ghost use Rattle.cvl_text.specs.declared.fault.Fault.{Fault};
 ghost use Rattle.cvl_text.specs.declared.word.Word.{Word};
 ghost use Rattle.cvl_text.specs.Tasks.{task_of};
 ghost use Rattle.cvl_calls.specs.Judging.{IsReady, JudgesBy, made, word_of};
@@ -64,6 +65,7 @@ fn part_at<'a, P: Copy, T: Stored, K: Joins<'a, P, T>, G: Group>(
     requires word { G.word group.now ≡ K.word kernel }
     ensures takes { IfOk result (K.Takes kernel) }
     ensures makes { IfOk result (λ part. slice_get (G.works group.now) place ≡ Some (Ok (Stores (T.content (K.makes kernel part))))) }
+    ensures fault { (fault : Fault) → result ≡ Err (Stop.Fault fault) → slice_get (G.works group.now) place ≡ Some (Err fault) }
 {
     match group.item(place) {
         Some(Item::Judged(judged)) => Ok(kernel.part(&judged)),
@@ -94,6 +96,7 @@ pub(crate) fn parts_of<'a, P: Copy, T: Stored, K: Joins<'a, P, T>, G: Group>(
     requires word { G.word group.now ≡ K.word kernel }
     ensures takes { IfOk result (λ parts. All (K.Takes kernel) parts.items) }
     ensures makes { IfOk result (λ parts. map (λ part. Ok (Stores (T.content (K.makes kernel part)))) parts.items ≡ G.works group.now) }
+    ensures fault { (fault : Fault) → result ≡ Err (Stop.Fault fault) → (place : ℕ) × (slice_get (G.works group.now) place ≡ Some (Err fault)) }
 {
     let count = group.count();
     let mut parts = Vec::with_capacity(alloc, count)?;

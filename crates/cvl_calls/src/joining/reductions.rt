@@ -1,8 +1,9 @@
 //! Reductions of all items, of which each is a reply.
 
-ghost use Rattle.std.specs.Prelude.{◌≡◌, Ok, Some, map, slice_get, IfOk};
+ghost use Rattle.std.specs.Prelude.{◌≡◌, ℕ, Err, Ok, Some, map, slice_get, IfOk};
 ghost use Rattle.item_operations.specs.BooleanScans.{combine_b, unit_b};
 ghost use Rattle.item_operations.specs.IntegerScans.{combine_z, unit_z};
+ghost use Rattle.cvl_text.specs.declared.fault.Fault.{Fault};
 ghost use Rattle.scan_kernels.specs.Metering.{CountsRun};
 ghost use Rattle.scan_kernels.specs.Segmented.{reduced};
 ghost use Rattle.cvl_text.specs.Answers.{BoolOf, IntOf};
@@ -32,6 +33,7 @@ pub(crate) fn reduced_ints<'a, G: Group>(
     requires alike { G.IsAlike group.now }
     requires word { G.word group.now ≡ words.Ask (asks.RedZ op) }
     ensures makes { IfOk result (λ made. map (λ effect. Ok effect) (effects_of made) ≡ G.works group.now) }
+    ensures fault { (fault : Fault) → result ≡ Err (Stop.Fault fault) → (place : ℕ) × (slice_get (G.works group.now) place ≡ Some (Err fault)) }
     ensures counted { CountsRun result meter.old meter.new }
 {
     let parts = ints_of(alloc, op, group)?;
@@ -43,7 +45,8 @@ pub(crate) fn reduced_ints<'a, G: Group>(
 fn ints_at<'a, G: Group>(op: ScanZ, group: &'a G, place: usize) -> Result<&'a [i64], Stop>
     requires alike { G.IsAlike group.now }
     requires word { G.word group.now ≡ words.Ask (asks.RedZ op) }
-    ensures { IfOk result (λ p. slice_get (G.works group.now) place ≡ Some (Ok (Answers (IntOf (reduced (combine_z op) (unit_z op) p.now))))) }
+    ensures makes { IfOk result (λ p. slice_get (G.works group.now) place ≡ Some (Ok (Answers (IntOf (reduced (combine_z op) (unit_z op) p.now))))) }
+    ensures fault { (fault : Fault) → result ≡ Err (Stop.Fault fault) → slice_get (G.works group.now) place ≡ Some (Err fault) }
 {
     let judged = match group.item(place) {
         Some(Item::Judged(judged)) => judged,
@@ -62,6 +65,7 @@ fn ints_of<'a, G: Group>(alloc: Global, op: ScanZ, group: &'a G) -> Result<Vec<&
     requires alike { G.IsAlike group.now }
     requires word { G.word group.now ≡ words.Ask (asks.RedZ op) }
     ensures makes { IfOk result (λ parts. map (λ p. Ok (Answers (IntOf (reduced (combine_z op) (unit_z op) p.now)))) parts.items ≡ G.works group.now) }
+    ensures fault { (fault : Fault) → result ≡ Err (Stop.Fault fault) → (place : ℕ) × (slice_get (G.works group.now) place ≡ Some (Err fault)) }
 {
     let count = group.count();
     let mut parts = Vec::with_capacity(alloc, count)?;
@@ -82,6 +86,7 @@ pub(crate) fn reduced_bools<'a, G: Group>(
     requires alike { G.IsAlike group.now }
     requires word { G.word group.now ≡ words.Ask (asks.RedB op) }
     ensures makes { IfOk result (λ made. map (λ effect. Ok effect) (effects_of made) ≡ G.works group.now) }
+    ensures fault { (fault : Fault) → result ≡ Err (Stop.Fault fault) → (place : ℕ) × (slice_get (G.works group.now) place ≡ Some (Err fault)) }
     ensures counted { CountsRun result meter.old meter.new }
 {
     let parts = bools_of(alloc, op, group)?;
@@ -93,7 +98,8 @@ pub(crate) fn reduced_bools<'a, G: Group>(
 fn bools_at<'a, G: Group>(op: ScanB, group: &'a G, place: usize) -> Result<&'a [bool], Stop>
     requires alike { G.IsAlike group.now }
     requires word { G.word group.now ≡ words.Ask (asks.RedB op) }
-    ensures { IfOk result (λ p. slice_get (G.works group.now) place ≡ Some (Ok (Answers (BoolOf (reduced (combine_b op) (unit_b op) p.now))))) }
+    ensures makes { IfOk result (λ p. slice_get (G.works group.now) place ≡ Some (Ok (Answers (BoolOf (reduced (combine_b op) (unit_b op) p.now))))) }
+    ensures fault { (fault : Fault) → result ≡ Err (Stop.Fault fault) → slice_get (G.works group.now) place ≡ Some (Err fault) }
 {
     let judged = match group.item(place) {
         Some(Item::Judged(judged)) => judged,
@@ -112,6 +118,7 @@ fn bools_of<'a, G: Group>(alloc: Global, op: ScanB, group: &'a G) -> Result<Vec<
     requires alike { G.IsAlike group.now }
     requires word { G.word group.now ≡ words.Ask (asks.RedB op) }
     ensures makes { IfOk result (λ parts. map (λ p. Ok (Answers (BoolOf (reduced (combine_b op) (unit_b op) p.now)))) parts.items ≡ G.works group.now) }
+    ensures fault { (fault : Fault) → result ≡ Err (Stop.Fault fault) → (place : ℕ) × (slice_get (G.works group.now) place ≡ Some (Err fault)) }
 {
     let count = group.count();
     let mut parts = Vec::with_capacity(alloc, count)?;

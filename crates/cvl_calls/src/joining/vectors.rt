@@ -1,6 +1,7 @@
 //! One kernel run over the joined operands of calls, of which each stores a vector.
 
-ghost use Rattle.std.specs.Prelude.{◌≡◌, Ok, map, All, IfOk};
+ghost use Rattle.std.specs.Prelude.{◌≡◌, ℕ, Err, Ok, Some, map, slice_get, All, IfOk};
+ghost use Rattle.cvl_text.specs.declared.fault.Fault.{Fault};
 ghost use Rattle.scan_kernels.specs.Metering.{CountsRun};
 ghost use Rattle.scan_kernels.specs.Parts.{parts_made};
 ghost use Rattle.cvl_calls.specs.Joined.{effects_of};
@@ -46,6 +47,7 @@ pub(crate) fn ints<'a, P: Copy, K: Joins<'a, P, i64> + IntKernel<'a, P>, G: Grou
     requires alike { G.IsAlike group.now }
     requires word { G.word group.now ≡ K.word kernel }
     ensures makes { IfOk result (λ made. map (λ effect. Ok effect) (effects_of made) ≡ G.works group.now) }
+    ensures fault { (fault : Fault) → result ≡ Err (Stop.Fault fault) → (place : ℕ) × (slice_get (G.works group.now) place ≡ Some (Err fault)) }
     ensures counted { CountsRun result meter.old meter.new }
 {
     let parts = parts_of(execution, alloc, meter, kernel, group)?;
@@ -85,6 +87,7 @@ pub(crate) fn bools<'a, P: Copy, K: Joins<'a, P, bool> + BoolKernel<'a, P>, G: G
     requires alike { G.IsAlike group.now }
     requires word { G.word group.now ≡ K.word kernel }
     ensures makes { IfOk result (λ made. map (λ effect. Ok effect) (effects_of made) ≡ G.works group.now) }
+    ensures fault { (fault : Fault) → result ≡ Err (Stop.Fault fault) → (place : ℕ) × (slice_get (G.works group.now) place ≡ Some (Err fault)) }
     ensures counted { CountsRun result meter.old meter.new }
 {
     let parts = parts_of(execution, alloc, meter, kernel, group)?;

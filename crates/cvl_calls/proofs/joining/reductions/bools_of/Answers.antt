@@ -19,7 +19,7 @@ loop-place-preserved g c =
     let long = inv.long in
     let lt : c.loop-place.place < length works = omega arith in
     record {
-      makes = ap (map f) items ∙ made-more f c.loop-place.parts.items c.in_ok-bools_at.field-0 works c.loop-place.place inv.makes c.in_ok-bools_at.ensures lt;
+      makes = ap (map f) items ∙ made-more f c.loop-place.parts.items c.in_ok-bools_at.field-0 works c.loop-place.place inv.makes c.in_ok-bools_at.ensures.makes lt;
       long = omega arith;
       room = c.push_reserved.ensures.capacity ∙ inv.room;
     }
