@@ -18,3 +18,4 @@ pub mod AloneLemmas
 pub mod SizeLemmas
 pub mod AlikeLemmas
 pub mod AlikeTurns
+pub mod OverTurns

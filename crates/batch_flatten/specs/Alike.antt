@@ -1,16 +1,22 @@
 -- A batch of alike calls in one wave: each request is for a single call of one word, and none reads the target of an earlier one.
-use Rattle.std.specs.Prelude.{◌≡◌, ◌⊎◌, ◌<◌, ◌≤◌, ◌+◌, All, false, List, [], ◌∷◌, length, map, Result, Ok, Some}
+use Rattle.std.specs.Prelude.{◌≡◌, ◌⊎◌, ◌<◌, ◌≤◌, ◌+◌, ℕ, zero, suc, All, false, List, [], ◌∷◌, length, map, Result, Ok, Some}
 use Rattle.std.specs.List.{AllByRecursion}
 use Rattle.scan_kernels.specs.Metering.{Metered}
 use Rattle.vector_memory.specs.States.{State}
 use Rattle.cvl_text.specs.declared.fault.Fault.{Fault}
 use Rattle.cvl_text.specs.declared.word.Word.{Word}
+use Rattle.cvl_text.specs.declared.call.Call.{Call}
+use Rattle.cvl_text.specs.declared.reply.Reply.TheVariants as replies
+use Rattle.cvl_text.specs.Tasks.{task_of}
+use Rattle.cvl_calls.specs.Alike.{AreDone}
 use Rattle.cvl_calls.specs.Outcomes.{Effect}
+use Rattle.call_history.specs.Alike.{entered}
 use Rattle.call_history.specs.declared.request.Job.{Job}
 use Rattle.call_history.specs.declared.request.Job.TheVariants.{One, Many}
 use Rattle.call_history.specs.declared.request.Request.{Request}
 use Rattle.call_history.specs.declared.request.Outcome.{Outcome}
-use Rattle.call_history.specs.Books.{BookState}
+use Rattle.call_history.specs.declared.request.Outcome.TheVariants.{Answered}
+use Rattle.call_history.specs.Books.{BookState, memory_of}
 use Rattle.call_history.specs.Fits.{returned}
 use Rattle.batch_flatten.specs.declared.ran.Ran.{Ran}
 use Rattle.batch_flatten.specs.Waves.{asked, jobs_clash}
@@ -53,3 +59,15 @@ pub record ServesAlike (old new : BookState) (requests : List Request) (outcomes
   pub bound : ran.kernels ≤ kernel_bound requests + ran.singles
   pub few_singles : ran.singles ≤ length requests
   pub kernels : after ≡ record before { runs = before.runs + ran.kernels }
+
+-- so many outcomes of calls that are done, at places one behind another
+abbrev pub done_from : ℕ → ℕ → List Outcome
+done_from place zero = []
+done_from place (suc count) = Answered place replies.Done ∷ done_from (place + 1) count
+
+-- The single calls of the requests ran behind the history, one after another, and each is done.
+pub record RunTogether (old new : BookState) (requests : List Request) : Type 0 where
+  pub calls : List Call
+  pub asked : map (λ c. One c) calls ≡ map (λ r. r.job) requests
+  pub entries : new.history ≡ entered old.history (map (λ r. r.caller) requests) calls
+  pub done : AreDone (memory_of old) (map task_of calls)

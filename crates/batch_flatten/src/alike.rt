@@ -41,7 +41,7 @@ fn have_word(requests: &[Request], word: Word) -> bool
 }
 
 /// The word of all requests, if they are for single calls of one word, which runs a kernel.
-fn common_word(requests: &[Request]) -> Option<Word>
+pub(crate) fn common_word(requests: &[Request]) -> Option<Word>
     ensures kernel { IfSome result (λ word. IsTrue (runs_kernel word)) }
     ensures alike { IfSome result (λ word. AreOfWord word requests.now) }
     ensures some { OnSome result (0 < length requests.now) }
@@ -79,7 +79,7 @@ const FEW: usize = 4;
 
 /// Whether no request reads the target of an earlier one, so that all are one wave. Of many requests the first two are compared
 /// before all are planned.
-fn are_one_wave(requests: &[Request]) -> bool
+pub(crate) fn are_one_wave(requests: &[Request]) -> bool
     requires { length requests.now ≤ BATCH_LIMIT }
     ensures { IsTrue result → wave_count requests.now ≤ 1 }
 {
@@ -172,7 +172,7 @@ pub(crate) fn serve_alike(
 }
 
 /// What a batch of one wave did: so many kernels ran, and so many calls by themselves though they were to be joined.
-fn one_wave(kernels: u64, singles: u64) -> Ran
+pub(crate) fn one_wave(kernels: u64, singles: u64) -> Ran
     ensures waves { result.waves ≡ 1 }
     ensures kernels { result.kernels ≡ kernels }
     ensures singles { result.singles ≡ singles }

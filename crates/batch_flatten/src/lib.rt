@@ -13,6 +13,7 @@ mod joining;
 pub mod laws;
 mod made;
 mod made_turns;
+mod over;
 mod plan;
 mod planning;
 mod ran;

@@ -15,6 +15,7 @@ ghost use Rattle.batch_flatten.specs.Serving.{AnswersSure, AreApart, AreAskedBy,
 
 use crate::alike::serve_alike;
 use crate::alone::serve_alone;
+use crate::over::serve_over;
 use crate::plan::BATCH_LIMIT;
 use crate::ran::Ran;
 use crate::roll::{Roll, open};
@@ -151,6 +152,9 @@ pub fn run_batch(
 {
     if requests.len() < 2 {
         return serve_alone(execution, alloc, book, requests, outcomes, meter);
+    }
+    if let Some(ran) = serve_over(execution, alloc, book, requests, outcomes, meter) {
+        return ran;
     }
     match serve_alike(execution, alloc, book, requests, outcomes, meter) {
         Some(ran) => ran,

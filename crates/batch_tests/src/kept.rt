@@ -26,7 +26,7 @@ const BATCHES: &[(&str, usize)] = &[
 ];
 
 /// How many bytes the book keeps for joined runs.
-fn bytes(book: &mut Book) -> usize {
+pub(crate) fn bytes(book: &mut Book) -> usize {
     let shelves = book.take_shelves();
     let bytes = shelves.bytes();
     book.put_shelves(shelves);

@@ -19,6 +19,8 @@ mod kept;
 #[cfg(test)]
 mod numbers;
 #[cfg(test)]
+mod over;
+#[cfg(test)]
 mod plans;
 #[cfg(test)]
 mod random;

@@ -9,3 +9,4 @@ pub mod Replays
 pub mod Serving
 pub mod InPlace
 pub mod Logged
+pub mod EnteredLemmas

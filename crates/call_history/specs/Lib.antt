@@ -10,3 +10,4 @@ pub mod Works
 pub mod Kept
 pub mod Logs
 pub mod Refs
+pub mod Alike

@@ -1,26 +1,31 @@
-ghost use Rattle.std.specs.Prelude.{◌≡◌, ◌==◌, ◌+◌, ◌<◌, ◌≤◌, ◌∷◌, ◌++◌, [], length, map, slice_get, false, Err, Some, IfOk, IfErr, OnOk, OnErr, IsOk, IsTrue};
+ghost use Rattle.std.specs.Prelude.{◌≡◌, ◌==◌, ◌+◌, ◌<◌, ◌≤◌, ◌∷◌, ◌++◌, [], length, map, slice_get, false, Err, Some, All, IfOk, IfErr, OnOk, OnErr, IsOk, IsTrue};
+ghost use Rattle.std.specs.List.{AllByRecursion};
+ghost use Rattle.scan_kernels.specs.Metering.{raised};
 ghost use Rattle.vector_memory.specs.States.{IsLawfulRoom, MayChange, bounds_in};
 ghost use Rattle.vector_memory.specs.Editions.{item_limit};
 ghost use Rattle.cvl_text.specs.Tasks.{task_of};
 ghost use Rattle.cvl_text.specs.Answers.{answer_of};
+ghost use Rattle.cvl_calls.specs.Alike.{AreDone};
 ghost use Rattle.cvl_calls.specs.Steps.{CountsStep, MayLackMemory, runs_on, stepped, work_on};
 ghost use Rattle.cvl_calls.specs.Runs.{TakesNoMemory};
 ghost use Rattle.call_history.specs.History.{replies_from, reply_after};
 ghost use Rattle.call_history.specs.Books.{memory_of};
 ghost use Rattle.call_history.specs.Blocks.{RisesBy, Whole, block_entries, block_limit, metered};
-ghost use Rattle.call_history.specs.Callers.{AreTickets, IsTicketed, HasLawfulCallers, next_before, next_entry};
+ghost use Rattle.call_history.specs.Alike.{entered};
+ghost use Rattle.call_history.specs.Callers.{AreTickets, IsTicketed, HasLawfulCallers, caller_limit, next_before, next_entry};
 ghost use Rattle.call_history.specs.Refs.{entry_of};
 ghost use Rattle.call_history.specs.Kept.{MayBeBrief, call_of, is_whole};
 ghost use Rattle.call_history.specs.Works.{HandsBack, IsWork, MayWantMemory};
 
+use crate::alike::{briefs, enter_briefs};
 use crate::audit::{holds_the_same, replayed};
 use crate::block::{enter_each, run_each};
 use crate::entry::EntryRef;
 use crate::kept::{Kept, brief};
 use crate::log::Log;
 use crate::work::{Unserved, Work};
-use cvl_calls::{Product, Shelves, Spare, apply_joined, step_with, target};
-use cvl_text::{Call, Reply};
+use cvl_calls::{Product, Shelves, Spare, apply_joined, step_alike, step_with, target};
+use cvl_text::{Call, Reply, Word};
 use scan_kernels::{Execution, Meter};
 use std::alloc::Global;
 use std::marker::Model;
@@ -86,7 +91,7 @@ pub(crate) fn enter(
 
 /// Writes a call that is kept in few bytes behind the entries, with the caller's next ticket, and answers its place.
 #[inline(always)]
-fn enter_brief(
+pub(crate) fn enter_brief(
     log: &mut Log,
     tickets: &mut Box<[u64; CALLER_LIMIT]>,
     caller: u64,
@@ -361,6 +366,42 @@ impl Book {
         Ok((place, reply))
     }
 
+    /// Runs calls of one word that are lent, in space that is left, each of the caller at its place, all by one kernel run: they write
+    /// their integers over those at their targets, and each is done. Where that cannot be, as `step_alike` tells, or a call cannot be kept
+    /// in few bytes, nothing changes.
+    pub fn run_alike(
+        &mut self,
+        execution: &impl Execution,
+        alloc: Global,
+        meter: &mut Meter,
+        word: Word,
+        callers: &[u64],
+        calls: &[&Call],
+    ) -> bool
+        requires callers { AllByRecursion (λ k. k < caller_limit) callers.now }
+        requires paired { length callers.now ≡ length calls.now }
+        requires alike { All (λ c. (task_of c.now).word ≡ word) calls.now }
+        requires space { length calls.now ≤ self.old.spaces }
+        ensures history { IsTrue result → self.new.history ≡ entered self.old.history callers.now (map (λ c. c.now) calls.now) }
+        ensures done { IsTrue result → AreDone (memory_of self.old) (map (λ c. task_of c.now) calls.now) }
+        ensures spaces { IsTrue result → self.old.spaces ≤ self.new.spaces + length calls.now }
+        ensures counted { IsTrue result → meter.new ≡ raised meter.old }
+
+        ensures unchanged { result ≡ false → self.new ≡ self.old }
+        ensures stays { result ≡ false → meter.new ≡ meter.old }
+
+        ensures bounds { self.new.bounds ≡ self.old.bounds }
+    {
+        let Some(kept) = briefs(alloc, calls) else {
+            return false;
+        };
+        if !step_alike(execution, alloc, meter, &mut self.memory, word, calls) {
+            return false;
+        }
+        enter_briefs(&mut self.log, &mut self.tickets, callers, kept);
+        true
+    }
+
     /// Runs the calls of a block, 1 to `BLOCK_LIMIT`, and writes them next to one another behind the history. A fault is a reply,
     /// and the block goes on. Answers the place of the first entry, counted from 0, and the replies in order. For want of memory at
     /// any of them the calls come back, and memory and history are as before. The meter rises by one for each call that ran a kernel.
@@ -457,6 +498,12 @@ impl Book {
         ensures { result.now ≡ memory_of self.now }
     {
         &self.memory
+    }
+
+    /// Whether long vectors are kept for the results of joined runs, as they are where the last joined run made such.
+    #[inline(always)]
+    pub fn keeps_long_ints(&self) -> bool {
+        self.spare.shelves().have_long_ints()
     }
 
     /// Takes out the vectors that are kept for the results of joined runs, for a run over what the memory lends, and leaves none. They

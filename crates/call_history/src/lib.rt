@@ -4,6 +4,7 @@
 //! history make of an empty memory, one by one.
 #![tactic(auto)]
 
+mod alike;
 mod audit;
 mod block;
 mod book;

@@ -1,5 +1,5 @@
--- What a joined run takes and makes, one call after another (`made-more`), and of all of them (`vectors-made`, `replies-made`,
--- `same-made`).
+-- What a joined run takes and makes, one call after another (`made-more`), and of all of them (`items-made`, `vectors-made`,
+-- `replies-made`, `same-made`).
 use Rattle.std.proofs.Common.{◌≡◌, ◌∙◌, ◌+◌, ◌<◌, ◌++◌, ◌∷◌, [], ℕ, Global, List, Ok, Option, Result, Some, Vec, ap, get_or, length, map, refl, slice_get, sym, take}
 use Rattle.std.proofs.lemmas.List.{map_push, take_more}
 use Rattle.std.proofs.lemmas.Option.{get_or_from_slice_get}
@@ -14,11 +14,15 @@ pub made-more : {P X : Type 0} (f : P → X) (done : List P) (p : P) (works : Li
 made-more f done p works i so at lt =
     map_push f done p ∙ ap (λ l. l ++ f p ∷ []) so ∙ ap (λ w. take i works ++ w ∷ []) (sym (get_or_from_slice_get works i (f p) (f p) at)) ∙ sym (take_more works i (f p) lt)
 
+pub items-made : {P X : Type 0} (store : List X → Effect) (mk : P → List X) (vs : List (Vec X Global)) (ps : List P) (works : List (Result Effect Fault)) → map (λ v. v.items) vs ≡ map mk ps → map (λ p. Ok (store (mk p))) ps ≡ works
+    → map (λ v. ok (store v.items)) vs ≡ works
+items-made {X = X} store mk vs ps works same makes =
+    let said : List X → Result Effect Fault = λ items. ok (store items) in
+    sym (map-map said (λ v. v.items) vs) ∙ ap (map said) same ∙ map-map said mk ps ∙ makes
+
 pub vectors-made : {P X : Type 0} (store : List X → Effect) (mk : P → List X) (vs : List (Vec X Global)) (ps : List P) (works : List (Result Effect Fault)) → map (λ v. v.items) vs ≡ map mk ps → map (λ p. Ok (store (mk p))) ps ≡ works
     → map (λ effect. Ok effect) (map (λ v. store v.items) vs) ≡ works
-vectors-made {X = X} store mk vs ps works same makes =
-    let said : List X → Result Effect Fault = λ items. ok (store items) in
-    map-map ok (λ v. store v.items) vs ∙ sym (map-map said (λ v. v.items) vs) ∙ ap (map said) same ∙ map-map said mk ps ∙ makes
+vectors-made store mk vs ps works same makes = map-map ok (λ v. store v.items) vs ∙ items-made store mk vs ps works same makes
 
 pub replies-made : {P X : Type 0} (say : X → Effect) (mk : P → X) (xs : List X) (ps : List P) (works : List (Result Effect Fault)) → xs ≡ map mk ps → map (λ p. Ok (say (mk p))) ps ≡ works → map (λ effect. Ok effect) (map say xs) ≡ works
 replies-made {X = X} say mk xs ps works same makes =

@@ -11,6 +11,7 @@ ghost use Rattle.cvl_calls.specs.Runs.{runs_kernel};
 mod elementwise;
 mod group;
 mod moves;
+mod over;
 mod packs;
 mod parts;
 mod reductions;
@@ -26,6 +27,7 @@ use crate::stop::Stop;
 use cvl_text::{AskWord, Kind, OneWord, ThreeWord, TwoWord, Word};
 use group::AllJudged;
 pub use group::{Group, Item};
+pub(crate) use over::run_group_over;
 use permute_kernels::{
     BackPermute, Gather, Pack, PackLengths, PackSegments, Permute, PermuteWhole,
 };

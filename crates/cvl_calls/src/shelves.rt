@@ -1,6 +1,6 @@
 //! Further vectors that were replaced, kept for the results of joined runs.
 
-ghost use Rattle.std.specs.Prelude.{◌≡◌, ◌+◌, ◌*◌, ◌≤◌, vec_capacity, IfErr, OnErr, OnOk};
+ghost use Rattle.std.specs.Prelude.{◌≡◌, ◌+◌, ◌*◌, ◌≤◌, vec_capacity, IfErr, IsTrue, OnErr, OnOk};
 ghost use Rattle.cvl_calls.specs.Spares.{shelved_limit};
 
 use scan_kernels::Shelf;
@@ -13,6 +13,10 @@ const SHELVED_INTS: usize = 2_097_152;
 
 /// For how many truth values: 16 MiB.
 const SHELVED_BOOLS: usize = 16_777_216;
+
+/// From how many integers on it repays calls that run together to write over those at their targets, in place of into vectors that were
+/// kept: found by `bench batch`. Of 4,096 the lists and look-ups that this takes cost as much as it saves, of 32,768 next to nothing.
+const LONG: usize = 16_384;
 
 /// Vectors that are kept for the results of joined runs: at most 64 of each kind, of at most 16 MiB together. They lie apart, so that
 /// they are taken out of a book and put back as one pointer. To a contract they are the number of bytes that they keep.
@@ -46,6 +50,16 @@ impl Shelves {
         match &self.kinds {
             Some(kinds) => kinds.bytes(),
             None => 0,
+        }
+    }
+
+    /// Whether the last vector of integers that is kept is a long one, so that the next results are long as well, as a rule.
+    pub fn have_long_ints(&self) -> bool
+        ensures { IsTrue result → 8 * LONG ≤ self.now }
+    {
+        match &self.kinds {
+            Some(kinds) => kinds.ints.last_space() >= LONG,
+            None => false,
         }
     }
 

@@ -110,6 +110,14 @@ impl Spare {
         }
     }
 
+    /// The vectors that are kept for joined runs.
+    #[inline(always)]
+    pub fn shelves(&self) -> &Shelves
+        ensures { result.now ≤ self.now }
+    {
+        &self.shelves
+    }
+
     /// Takes out the vectors that are kept for joined runs, and leaves none.
     #[inline(always)]
     pub fn take_shelves(&mut self) -> Shelves

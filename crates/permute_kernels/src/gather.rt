@@ -8,7 +8,7 @@ ghost use Rattle.scan_kernels.specs.Gathered.{gathered};
 
 use scan_kernels::{
     BoolRow, Execution, Gathered, IntRow, Meter, Source, bools_by_chunks, gather_size,
-    ints_by_chunks, place_of,
+    ints_by_pieces, place_of,
 };
 use segment_desc::OutOfMemory;
 use std::alloc::AllocError;
@@ -30,7 +30,7 @@ pub fn gather_z(
     let made = match gather_size(execution, meter, index.len()) {
         Some(size) => {
             let row = IntRow::Gathered(Gathered { items, index });
-            ints_by_chunks(execution, alloc, row, size)?
+            ints_by_pieces(execution, alloc, row, size)?
         }
         None => gathered(alloc, items, index)?,
     };

@@ -20,6 +20,7 @@ pub mod PartMoves
 pub mod PlaceTests
 pub mod Placed
 pub mod Places
+pub mod PutPieces
 pub mod ReducedChunks
 pub mod ReducedParts
 pub mod ResultLengths

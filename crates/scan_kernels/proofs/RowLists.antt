@@ -1,4 +1,5 @@
--- Lists that were made of rows, over vectors of their own: `made_all` and `exact_all`, and one row more, `rows_next`.
+-- Lists that were made of rows, over vectors of their own: `made_all` and `exact_all`, that they are as long as before, `long_all`, and one
+-- row more, `rows_next`.
 use Rattle.std.proofs.Common.{arith, rules, ◌≡◌, ◌∙◌, ℕ, ◌+◌, ◌<◌, List, [], ◌∷◌, ◌++◌, Vec, Global, length, map, take, get_or, suc, refl, subst, sym, ap, All, vec_len}
 use Rattle.std.proofs.lemmas.List.{map_more, map_push}
 use Rattle.std.proofs.Math.Seq.{take-append_seam}
@@ -57,3 +58,30 @@ module _ {R X : Type 0} (f : R → List X) where
   exact_all rows old new rest n all long made exact =
       let count = made.count in
       subst (All IsExact) (sym (whole new rest n (omega arith))) (exact_each rows old new long made exact)
+
+  long_each : (rows : List R) (old : List (Vec X Global)) → length old ≡ length rows
+      → ((k : ℕ) (r : R) (v : Vec X Global) → k < length old → length (get_or old k v).items ≡ length (f (get_or rows k r))) → map (λ v. length v.items) old ≡ map (λ r. length (f r)) rows
+  long_each [] [] count same = refl
+  long_each [] (w ∷ old) count same = absurd (omega arith)
+  long_each (r ∷ rows) [] count same = absurd (omega arith)
+  long_each (r ∷ rows) (w ∷ old) count same =
+      ap (λ n. n ∷ map (λ v. length v.items) old) (same 0 r w (omega arith))
+      ∙ ap (λ l. length (f r) ∷ l) (long_each rows old (omega arith) (λ k r v h. same (suc k) r v (omega arith)))
+
+  lengths : (rows : List R) (new : List (Vec X Global)) → map (λ v. v.items) new ≡ map f rows → map (λ v. length v.items) new ≡ map (λ r. length (f r)) rows
+  lengths [] [] same = refl
+  lengths [] (w ∷ new) same = absurd cc
+  lengths (r ∷ rows) [] same = absurd cc
+  lengths (r ∷ rows) (w ∷ new) same =
+      let first : w.items ≡ f r = cc in
+      let rest : map (λ v. v.items) new ≡ map f rows = cc in
+      ap (λ l. length l ∷ map (λ v. length v.items) new) first ∙ ap (λ l. length (f r) ∷ l) (lengths rows new rest)
+
+  -- vectors that have become their rows are as long as before
+  pub long_all : (rows : List R) (old new : List (Vec X Global)) → length old ≡ length rows → AreAsLong f rows 0 old → map (λ v. v.items) new ≡ map f rows
+      → map (λ v. length v.items) new ≡ map (λ v. length v.items) old
+  long_all rows old new count long made =
+      lengths rows new made
+      ∙ sym (long_each rows old count (λ k r v h.
+      let first : 0 + k ≡ k = omega arith in
+      long.long k r v h ∙ ap (λ j. length (f (get_or rows j r))) first))

@@ -5,7 +5,7 @@ ghost use Rattle.std.specs.Prelude.{◌≡◌};
 use crate::execution::Execution;
 use crate::in_threads::{
     write_bools_in_threads, write_each_bools_in_threads, write_each_ints_in_threads,
-    write_ints_in_threads,
+    write_ints_beside, write_ints_in_threads,
 };
 use crate::rows::{BoolRow, IntRow};
 use rayon::current_num_threads;
@@ -51,6 +51,18 @@ impl<R: Threads + Sync> Execution for Counted<R> {
 
     fn write_ints(&self, row: IntRow<'_>, size: usize, list: &mut [i64]) {
         write_ints_in_threads(&self.runtime, row, size, list)
+    }
+
+    fn write_ints_beside(
+        &self,
+        row: IntRow<'_>,
+        size: usize,
+        start: usize,
+        part: &mut [i64],
+        items: &[i64],
+        made: &mut Vec<i64>,
+    ) {
+        write_ints_beside(&self.runtime, row, size, start, part, items, made)
     }
 
     fn write_bools(&self, row: BoolRow<'_>, size: usize, list: &mut [bool]) {

@@ -3,8 +3,9 @@
 //! A policy has a method for each kind of work that goes by chunks. All types of a method are known ones, since what is handed
 //! to threads may rest on no bound of a type parameter.
 
-ghost use Rattle.std.specs.Prelude.{◌≡◌, ◌<◌, ◌≤◌, length, All};
+ghost use Rattle.std.specs.Prelude.{◌≡◌, ◌+◌, ◌<◌, ◌≤◌, ◌^◌, length, take, drop, vec_len, vec_capacity, All};
 ghost use Rattle.std.specs.Thread.{IsSync};
+ghost use Rattle.segment_desc.specs.Appended.{Appends};
 ghost use Rattle.scan_kernels.specs.RowLists.{AreAsLong, AreMade};
 ghost use Rattle.scan_kernels.specs.Lists.{FitBools, FitInts, bools_of, ints_of};
 
@@ -13,10 +14,11 @@ use crate::in_order::{
 };
 use crate::in_threads::{
     write_bools_in_threads, write_each_bools_in_threads, write_each_ints_in_threads,
-    write_ints_in_threads,
+    write_ints_beside, write_ints_in_threads,
 };
-use crate::rows::{BoolRow, IntRow};
+use crate::rows::{BoolRow, IntRow, write_ints};
 use rayon::current_num_threads;
+use segment_desc::append_reserved;
 use std::marker::Sync;
 use std::thread::Threads;
 
@@ -37,6 +39,25 @@ pub trait Execution {
         requires fits { FitInts row }
         requires long { length list.old ≡ length (ints_of row) }
         ensures { list.new ≡ ints_of row.entry };
+
+    /// Writes the integers from a place on, as many as the part has, in chunks of a size, and meanwhile puts items behind others.
+    fn write_ints_beside(
+        &self,
+        row: IntRow<'_>,
+        size: usize,
+        start: usize,
+        part: &mut [i64],
+        items: &[i64],
+        made: &mut Vec<i64>,
+    )
+        requires shared { IsSync Self.Shared.row }
+        requires size { 0 < size }
+        requires fits { FitInts row }
+        requires within { start + length part.old ≤ length (ints_of row) }
+        requires small { start + length part.old < 2 ^ 64 }
+        requires room { vec_len made.old + length items.now ≤ vec_capacity made.old }
+        ensures part { part.new ≡ take (length part.old) (drop start (ints_of row.entry)) }
+        ensures made { Appends made.old made.new items.entry.now };
 
     /// Writes truth values over a list of as many, in chunks of a size.
     fn write_bools(&self, row: BoolRow<'_>, size: usize, list: &mut [bool])
@@ -75,6 +96,18 @@ impl<R: Threads + Sync> Execution for R {
         write_ints_in_threads(self, row, size, list)
     }
 
+    fn write_ints_beside(
+        &self,
+        row: IntRow<'_>,
+        size: usize,
+        start: usize,
+        part: &mut [i64],
+        items: &[i64],
+        made: &mut Vec<i64>,
+    ) {
+        write_ints_beside(self, row, size, start, part, items, made)
+    }
+
     fn write_bools(&self, row: BoolRow<'_>, size: usize, list: &mut [bool]) {
         write_bools_in_threads(self, row, size, list)
     }
@@ -102,6 +135,19 @@ impl Execution for Sequential {
 
     fn write_ints(&self, row: IntRow<'_>, size: usize, list: &mut [i64]) {
         write_ints_in_order(row, size, list)
+    }
+
+    fn write_ints_beside(
+        &self,
+        row: IntRow<'_>,
+        _size: usize,
+        start: usize,
+        part: &mut [i64],
+        items: &[i64],
+        made: &mut Vec<i64>,
+    ) {
+        append_reserved(items, made);
+        write_ints(row, start, part)
     }
 
     fn write_bools(&self, row: BoolRow<'_>, size: usize, list: &mut [bool]) {

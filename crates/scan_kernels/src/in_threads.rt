@@ -1,6 +1,8 @@
 //! Work by chunks in threads that a runtime starts.
 
-ghost use Rattle.std.specs.Prelude.{◌≡◌, ◌+◌, ◌<◌, ◌≤◌, ◌^◌, length, take, drop, All};
+ghost use Rattle.std.specs.Prelude.{◌≡◌, ◌+◌, ◌<◌, ◌≤◌, ◌^◌, length, take, drop, vec_len, vec_capacity, All};
+ghost use Rattle.std.specs.Thread.{IsSync};
+ghost use Rattle.segment_desc.specs.Appended.{Appends};
 ghost use Rattle.scan_kernels.specs.RowLists.{AreAsLong, AreMade};
 ghost use Rattle.scan_kernels.specs.Lists.{FitBools, FitInts, bools_of, ints_of};
 
@@ -10,7 +12,9 @@ use crate::in_turn::{
 };
 use crate::row_lists::{write_bool_lists, write_int_lists};
 use crate::rows::{BoolRow, IntRow, write_bools, write_ints};
+use rayon::join_mut;
 use rayon::prelude::*;
+use segment_desc::append_reserved;
 use std::thread::Threads;
 
 /// Writes integers over a list of as many, in chunks of a size.
@@ -39,6 +43,36 @@ pub fn write_ints_in_threads<R: Threads + Sync>(
             write_ints(row, start, part);
         },
     );
+}
+
+/// Writes the integers from a place on, as many as the part has, in few chunks of a size, and meanwhile puts items behind others in a
+/// thread of its own.
+pub fn write_ints_beside<R: Threads + Sync>(
+    rt: &R,
+    row: IntRow<'_>,
+    size: usize,
+    start: usize,
+    part: &mut [i64],
+    items: &[i64],
+    made: &mut Vec<i64>,
+)
+    requires size { 0 < size }
+    requires fits { FitInts row }
+    requires within { start + length part.old ≤ length (ints_of row) }
+    requires small { start + length part.old < 2 ^ 64 }
+    requires room { vec_len made.old + length items.now ≤ vec_capacity made.old }
+    ensures part { part.new ≡ take (length part.old) (drop start (ints_of row.entry)) }
+    ensures made { Appends made.old made.new items.entry.now }
+{
+    let mut one = ||
+        requires { vec_len made.now + length items.now ≤ vec_capacity made.now }
+        ensures { Appends made.entry.now made.exit.now items.entry.now }
+    { append_reserved(items, made) };
+    let mut others = ||
+        requires { IsSync R.row × (0 < size) × FitInts row × (start + length part.now ≤ length (ints_of row)) × (start + length part.now < 2 ^ 64) }
+        ensures { part.exit.now ≡ take (length part.entry.now) (drop start (ints_of row.entry)) }
+    { write_ints_in_turn(rt, row, size, start, part) };
+    join_mut(rt, &mut one, &mut others);
 }
 
 /// Writes truth values over a list of as many, in chunks of a size.

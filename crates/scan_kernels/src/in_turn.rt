@@ -14,7 +14,7 @@ use std::marker::Sync;
 use std::thread::Threads;
 
 /// Up to how many chunks the calling thread starts their threads itself: each start takes it some ten microseconds.
-const FEW_CHUNKS: usize = 16;
+pub(crate) const FEW_CHUNKS: usize = 16;
 
 /// Whether so many items make few chunks of a size.
 pub(crate) fn are_few(count: usize, size: usize) -> bool

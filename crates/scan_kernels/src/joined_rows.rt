@@ -36,7 +36,7 @@ pub trait BoolKernel<'a, P>: JoinedKernel<P, Item = bool> {
 }
 
 /// The results of all parts as rows, if there is memory for their list.
-fn int_rows<'a, P, K: IntKernel<'a, P>>(
+pub(crate) fn int_rows<'a, P, K: IntKernel<'a, P>>(
     alloc: Global,
     kernel: K,
     parts: &[P],
@@ -53,7 +53,7 @@ fn int_rows<'a, P, K: IntKernel<'a, P>>(
 }
 
 /// How many integers the rows have, or as many as can be told.
-fn total_ints(rows: &[IntRow<'_>]) -> usize
+pub(crate) fn total_ints(rows: &[IntRow<'_>]) -> usize
     requires { All FitInts rows.now }
 {
     let mut total: usize = 0;

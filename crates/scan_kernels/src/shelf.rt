@@ -65,6 +65,16 @@ impl<T> Shelf<T> {
         self.space
     }
 
+    /// For how many items the last vector has space, 0 where none lies here: of the next results, as a rule, each has as many.
+    pub fn last_space(&self) -> usize
+        ensures { result ≤ self.now }
+    {
+        match self.vectors.last() {
+            Some(vector) => vector.capacity(),
+            None => 0,
+        }
+    }
+
     /// The allocator of its vectors.
     pub fn allocator(&self) -> Global {
         *self.vectors.allocator()

@@ -10,9 +10,9 @@ pub const BLOCK: usize = 64;
 pub fn are_single(lengths: &[usize]) -> bool
     ensures { IsTrue result ↔ All (λ l. l ≡ 1) lengths.now }
 {
-    let mut each = true;
+    let mut others = 0;
     for length in lengths {
-        each &= *length == 1;
+        others |= *length ^ 1;
     }
-    each
+    others == 0
 }

@@ -65,7 +65,7 @@ put-put m n v w outside =
     ap (λ (es : List (Name × Content)). record { entries = es; room = m.room; limit = m.limit; block = spent true (spent true m.block) }) (insert-insert m.entries n v w)
     ∙ ap (λ (o : Option Began). record { entries = insert_entry same_name m.entries n w; room = m.room; limit = m.limit; block = o }) (unspent m.block outside)
 
-not_refused : (m : State) (n : Name) (old v : Content) → value_at m n ≡ Some old → cells_after m n v ≤ m.room → refusal m n v ≡ None
+pub not_refused : (m : State) (n : Name) (old v : Content) → value_at m n ≡ Some old → cells_after m n v ≤ m.room → refusal m n v ≡ None
 not_refused m n old v there fits =
     ap (λ b. cond b (Some NoRoom) (cond (not (is_some (value_at m n)) && leb name_limit (length m.entries)) (Some TooManyNames) None)) (le-ltb m.room (cells_after m n v) fits)
     ∙ ap (λ (o : Option Content). cond (not (is_some o) && leb name_limit (length m.entries)) (Some TooManyNames) None) there

@@ -1,0 +1,9 @@
+use Rattle.std.proofs.Common.{rules, ◌∙◌}
+use Rattle.cvl_calls.proofs.SameWord.{same_one}
+use Rattle.cvl_calls.proofs.joining.over.one.Goals as goal
+
+pub ints-requires-sync-typeof-execution-Shared : goal.ints-requires-sync-typeof-execution-Shared
+ints-requires-sync-typeof-execution-Shared g c κs within = (search rules, (search rules, (c.requires.alike, c.requires.word ∙ same_one (search rules))))
+
+pub ints-requires-in-ScanZ-sync-typeof-execution-Shared : goal.ints-requires-in-ScanZ-sync-typeof-execution-Shared
+ints-requires-in-ScanZ-sync-typeof-execution-Shared g c κs within = (search rules, (search rules, (c.requires.alike, c.requires.word ∙ same_one (search rules))))
