@@ -14,6 +14,7 @@ use Rattle.vector_memory.specs.declared.bounds.Bounds.{Bounds}
 use Rattle.cvl_text.specs.declared.call.Call.{Call}
 use Rattle.cvl_text.specs.Tasks.{task_of}
 use Rattle.cvl_calls.specs.Runs.{TakesNoMemory}
+use Rattle.cvl_calls.proofs.Joined.{slice_get-take}
 use Rattle.call_history.specs.declared.entry.Entry.{Entry}
 use Rattle.call_history.specs.declared.request.Job.{Job}
 use Rattle.call_history.specs.declared.request.Job.TheVariants.{One, Many}
@@ -151,12 +152,6 @@ module _ (bounds : Bounds) (line : List Entry) (rs : List Request) (done : List 
 
   serving_run : RunsJob old new k job o → Serving bounds line rs (done ++ place ∷ []) new.history (set os place o)
   serving_run runs = ⊎_elim serving_ran serving_stays (job-cases old new k job o runs)
-
-slice_get-take : {X : Type 0} (xs : List X) (n i : ℕ) → i < n → slice_get (take n xs) i ≡ slice_get xs i
-slice_get-take xs zero i lt = absurd (omega arith)
-slice_get-take [] (suc n) i lt = refl
-slice_get-take (x ∷ xs) (suc n) zero lt = refl
-slice_get-take (x ∷ xs) (suc n) (suc i) lt = slice_get-take xs n i (omega arith)
 
 slice_index-at : (ns : List ℕ) (i n : ℕ) → slice_get ns i ≡ Some n → slice_index ns i ≡ n
 slice_index-at [] i n h = absurd cc

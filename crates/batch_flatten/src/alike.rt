@@ -46,9 +46,9 @@ pub(crate) fn common_word(requests: &[Request]) -> Option<Word>
     ensures alike { IfSome result (λ word. AreOfWord word requests.now) }
     ensures some { OnSome result (0 < length requests.now) }
 {
-    let first = requests.first()?;
+    let (first, later) = requests.split_first()?;
     let word = job_word(&first.job);
-    if runs_kernel(word) && have_word(requests, word) {
+    if runs_kernel(word) && have_word(later, word) {
         Some(word)
     } else {
         None

@@ -51,6 +51,7 @@ fn is_open(turn: Turn) -> bool
 
 /// Whether two words are one.
 #[tactic(auto, using(cvl_text::proofs::SameWords::words_Decide))]
+#[inline(always)]
 pub(crate) fn is_same_word(a: Word, b: Word) -> bool
     ensures { IsTrue result ↔ (a ≡ b) }
 {

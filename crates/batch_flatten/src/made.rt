@@ -4,12 +4,14 @@ ghost use Rattle.std.specs.Prelude.{◌≡◌, map, IfOk, IfSome, IsTrue, OnErr,
 ghost use Rattle.scan_kernels.specs.Metering.{raised};
 ghost use Rattle.cvl_calls.specs.Joined.{effects_of};
 ghost use Rattle.cvl_calls.specs.Runs.{runs_kernel};
+ghost use Rattle.vector_memory.specs.States.{State};
 ghost use Rattle.call_history.specs.declared.request.Job.{Job};
 ghost use Rattle.batch_flatten.specs.Alike.{AreMadeOf, AreOfWord, work_asked};
+ghost use Rattle.batch_flatten.specs.Counts.{word_asked};
 
 use call_history::{Job, Request};
 use cvl_calls::{Group, Item, Made, Shelves, Stop, run_group};
-use cvl_text::{Call, Word};
+use cvl_text::{Call, Word, read_the_same};
 use scan_kernels::{Execution, Meter};
 use std::alloc::Global;
 use vector_memory::Memory;
@@ -33,8 +35,22 @@ fn call_of(request: &Request) -> Option<&Call>
     }
 }
 
+/// Whether two requests, for calls of one word that runs a kernel, read the same names, at least one. Such a call takes nothing else,
+/// so the same comes of both.
+#[inline(always)]
+fn make_the_same(earlier: &Request, later: &Request) -> bool
+    requires alike { word_asked later.now ≡ word_asked earlier.now }
+    requires kernel { IsTrue (runs_kernel (word_asked earlier.now)) }
+    ensures { IsTrue result → (memory : State) → work_asked memory later.now ≡ work_asked memory earlier.now }
+{
+    match (call_of(earlier), call_of(later)) {
+        (Some(before), Some(behind)) => read_the_same(before, behind),
+        _ => false,
+    }
+}
+
 impl Group for Asked<'_> {
-    ghost IsAlike = { λ asked. AreOfWord asked.word asked.requests.now };
+    ghost IsAlike = { λ asked. AreOfWord asked.word asked.requests.now × IsTrue (runs_kernel asked.word) };
 
     ghost word = { λ asked. asked.word };
 
@@ -50,6 +66,17 @@ impl Group for Asked<'_> {
         let request = self.requests.get(place)?;
         let call = call_of(request)?;
         Some(Item::Call(self.memory, call))
+    }
+
+    #[inline(always)]
+    fn is_again(&self, place: usize) -> bool {
+        let Some(before) = place.checked_sub(1) else {
+            return false;
+        };
+        match (self.requests.get(before), self.requests.get(place)) {
+            (Some(earlier), Some(later)) => make_the_same(earlier, later),
+            _ => false,
+        }
     }
 }
 

@@ -98,6 +98,31 @@ fn run_whole(book: &mut Book, caller: u64, job: Job, work: Work, outcomes: &mut 
     }
 }
 
+/// The turn of a call that did not run where it was lent: a history keeps it whole, or memory is wanted. It stands apart, since most
+/// calls run.
+#[inline(never)]
+fn serve_unserved(
+    alloc: Global,
+    book: &mut Book,
+    request: &mut Request,
+    unserved: Unserved<Work>,
+    outcomes: &mut Vec<Outcome>,
+)
+    requires caller { request.old.caller < caller_limit }
+    requires made { (work : Work) (call : Call) → unserved ≡ Unserved.Whole work → request.old.job ≡ Job.One call → IsWork work (work_on (memory_of book.old) (task_of call)) }
+    requires room { vec_len outcomes.old < vec_capacity outcomes.old }
+    ensures ran { (outcome : Outcome) × (outcomes.new.items ≡ outcomes.old.items ++ outcome ∷ []) × RunsJob book.old book.new request.old.caller request.old.job outcome }
+    ensures one_space { book.old.spaces ≤ book.new.spaces + 1 }
+    ensures spaces { vec_capacity outcomes.new ≡ vec_capacity outcomes.old }
+{
+    let caller = request.caller;
+    let job = take_job(alloc, request);
+    match unserved {
+        Unserved::OutOfMemory => outcomes.push_reserved(handed_back(job)),
+        Unserved::Whole(work) => run_whole(book, caller, job, work, outcomes),
+    }
+}
+
 /// The turn of a request whose product was made before. What became of it goes behind the outcomes.
 #[inline(always)]
 fn serve_one(
@@ -121,11 +146,7 @@ fn serve_one(
     };
     match book.run_lent(caller, call, work) {
         Ok((place, reply)) => outcomes.push_reserved(Outcome::Answered { place, reply }),
-        Err(Unserved::OutOfMemory) => outcomes.push_reserved(handed_back(take_job(alloc, request))),
-        Err(Unserved::Whole(work)) => {
-            let job = take_job(alloc, request);
-            run_whole(book, caller, job, work, outcomes);
-        }
+        Err(unserved) => serve_unserved(alloc, book, request, unserved, outcomes),
     }
 }
 

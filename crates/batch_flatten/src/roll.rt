@@ -45,6 +45,7 @@ fn callers_of(requests: &[Request]) -> [u8; BATCH_LIMIT]
 }
 
 /// The word of a single call; of a block one that runs no kernel.
+#[inline(always)]
 pub(crate) fn job_word(job: &Job) -> Word
     ensures { result ≡ word_of_job job.now }
 {

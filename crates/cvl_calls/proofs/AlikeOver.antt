@@ -342,9 +342,6 @@ held_next m held n ns all xs vs are lawful is some left there =
     let short : length xs ≤ m.limit = rw is at (value_at-fits m n lawful) in
     subst (λ l. AreHeld m l (xs ∷ vs)) (sym are) (is, omega (arith, count, some.2), short, subst (λ (s : State). AreHeld s ns vs) left there)
 
-pub emptied_next : (m held after : State) (n : Name) (ns all : List Name) → all ≡ n ∷ ns → held ≡ put m n (Ints []) → after ≡ emptied held ns → after ≡ emptied m all
-emptied_next m held after n ns all are left is = is ∙ ap (λ (s : State). emptied s ns) left ∙ sym (ap (emptied m) are)
-
 -- they may go back, and then all is as before
 module _ (m held : State) (n : Name) (xs : List ℤ) (lawful : IsLawful m) (is : value_at m n ≡ Some (Ints xs)) (left : held ≡ put m n (Ints [])) where
   pub back_there : value_at held n ≡ Some (Ints [])
@@ -374,7 +371,3 @@ taken_next items old new all x vs pushed is =
 pub filled-none : (m : State) (ns : List Name) → filled m ns [] ≡ m
 filled-none m [] = refl
 filled-none m (n ∷ ns) = refl
-
--- one name and its integers of those that are left
-pub filled_next : (m next : State) (n : Name) (ns all : List Name) (v : List ℤ) (vs : List (List ℤ)) → all ≡ n ∷ ns → next ≡ put m n (Ints v) → filled next ns vs ≡ filled m all (v ∷ vs)
-filled_next m next n ns all v vs are is = ap (λ (s : State). filled s ns vs) is ∙ sym (ap (λ l. filled m l (v ∷ vs)) are)

@@ -1,8 +1,10 @@
--- What a joined run takes and makes, one call after another (`made-more`), and of all of them (`items-made`, `vectors-made`,
+-- What a joined run takes and makes, one call after another (`made-more`), also where one makes what the one before it makes
+-- (`made-again`), and of all of them (`items-made`, `vectors-made`,
 -- `replies-made`, `same-made`).
-use Rattle.std.proofs.Common.{◌≡◌, ◌∙◌, ◌+◌, ◌<◌, ◌++◌, ◌∷◌, [], ℕ, Global, List, Ok, Option, Result, Some, Vec, ap, get_or, length, map, refl, slice_get, sym, take}
+use Rattle.std.proofs.Common.{◌≡◌, ◌∙◌, ◌+◌, ◌<◌, ◌++◌, ◌∷◌, [], ℕ, Global, List, Ok, Result, Some, Vec, ap, arith, length, map, refl, slice_get, suc, sym, take, zero}
 use Rattle.std.proofs.lemmas.List.{map_push, take_more}
-use Rattle.std.proofs.lemmas.Option.{get_or_from_slice_get}
+use Rattle.std.specs.Option.{option_map}
+use Rattle.std.proofs.lemmas.Option.{get_or_from_slice_get, slice_get-map}
 use Rattle.std.proofs.lemmas.Simd.{map-map}
 use Rattle.cvl_text.specs.declared.fault.Fault.{Fault}
 use Rattle.cvl_calls.specs.Outcomes.{Effect}
@@ -13,6 +15,16 @@ ok effect = Ok effect
 pub made-more : {P X : Type 0} (f : P → X) (done : List P) (p : P) (works : List X) (i : ℕ) → map f done ≡ take i works → slice_get works i ≡ Some (f p) → i < length works → map f (done ++ p ∷ []) ≡ take (i + 1) works
 made-more f done p works i so at lt =
     map_push f done p ∙ ap (λ l. l ++ f p ∷ []) so ∙ ap (λ w. take i works ++ w ∷ []) (sym (get_or_from_slice_get works i (f p) (f p) at)) ∙ sym (take_more works i (f p) lt)
+
+pub slice_get-take : {X : Type 0} (xs : List X) (n i : ℕ) → i < n → slice_get (take n xs) i ≡ slice_get xs i
+slice_get-take xs zero i lt = absurd (omega arith)
+slice_get-take [] (suc n) i lt = refl
+slice_get-take (x ∷ xs) (suc n) zero lt = refl
+slice_get-take (x ∷ xs) (suc n) (suc i) lt = slice_get-take xs n i (omega arith)
+
+pub made-again : {P X : Type 0} (f : P → X) (done : List P) (p : P) (works : List X) (i before : ℕ) → map f done ≡ take i works → i ≡ before + 1 → slice_get done before ≡ Some p → slice_get works i ≡ slice_get works before → slice_get works i ≡ Some (f p)
+made-again f done p works i before so next at again =
+    again ∙ sym (slice_get-take works i before (omega arith)) ∙ ap (λ l. slice_get l before) (sym so) ∙ slice_get-map f done before ∙ ap (option_map f) at
 
 pub items-made : {P X : Type 0} (store : List X → Effect) (mk : P → List X) (vs : List (Vec X Global)) (ps : List P) (works : List (Result Effect Fault)) → map (λ v. v.items) vs ≡ map mk ps → map (λ p. Ok (store (mk p))) ps ≡ works
     → map (λ v. ok (store v.items)) vs ≡ works

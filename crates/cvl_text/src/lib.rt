@@ -28,7 +28,7 @@ pub use call::{Call, SegmentedIndex};
 pub use fault::{Fault, ReadFault};
 pub use named::{call_of_ask, call_of_one, call_of_two};
 pub use names::NamesRead;
-pub use parts::{call_word, names_read, reads, target};
+pub use parts::{call_word, names_read, read_the_same, reads, target};
 pub use reply::Reply;
 pub use text::next_word;
 pub use word::{

@@ -1,6 +1,6 @@
 //! The parts of a call: its word, its target and the names that it reads.
 
-ghost use Rattle.std.specs.Prelude.{◌≡◌};
+ghost use Rattle.std.specs.Prelude.{◌≡◌, ◌≢◌, ◌↔◌, [], IsTrue};
 ghost use Rattle.cvl_text.specs.Tasks.{task_of, reads, target, four_of};
 ghost use Rattle.cvl_text.specs.Names.{listed};
 
@@ -10,6 +10,7 @@ use crate::word::{AskWord, OneWord, ThreeWord, TwoWord, Word};
 use vector_memory::Name;
 
 /// The word of a call: all of it but the names, the numbers and the items.
+#[inline(always)]
 pub fn call_word(call: &Call) -> Word
     ensures { result ≡ (task_of call.now).word }
 {
@@ -146,6 +147,24 @@ pub fn names_read(call: &Call) -> NamesRead<'_>
         Call::Pkl { f, s, .. } => NamesRead::Two(f, s),
         Call::Ext { a, .. } => NamesRead::One(a),
         Call::Rep { a, .. } => NamesRead::One(a),
+    }
+}
+
+/// Whether two calls read a name, and both the same names in the same order.
+#[inline(always)]
+pub fn read_the_same(one: &Call, other: &Call) -> bool
+    ensures { IsTrue result ↔ ((reads (task_of one.now) ≢ []) × (reads (task_of one.now) ≡ reads (task_of other.now))) }
+{
+    match (names_read(one), names_read(other)) {
+        (NamesRead::One(a), NamesRead::One(x)) => *a == *x,
+        (NamesRead::Two(a, b), NamesRead::Two(x, y)) => *a == *x && *b == *y,
+        (NamesRead::Three(a, b, c), NamesRead::Three(x, y, z)) => {
+            *a == *x && *b == *y && *c == *z
+        }
+        (NamesRead::Four(a, b, c, d), NamesRead::Four(w, x, y, z)) => {
+            *a == *w && *b == *x && *c == *y && *d == *z
+        }
+        _ => false,
     }
 }
 

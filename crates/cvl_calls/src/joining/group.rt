@@ -1,6 +1,6 @@
 //! Calls of one word, of which a joined kernel takes the operands.
 
-ghost use Rattle.std.specs.Prelude.{◌≡◌, List, Ok, Result, length, map, slice_get, All, IfSome};
+ghost use Rattle.std.specs.Prelude.{◌≡◌, ◌+◌, ℕ, List, Ok, Result, length, map, slice_get, All, IfSome, IsTrue};
 ghost use Rattle.cvl_text.specs.declared.fault.Fault.{Fault};
 ghost use Rattle.cvl_text.specs.declared.word.Word.{Word};
 ghost use Rattle.cvl_calls.specs.Joined.{IsItem};
@@ -39,6 +39,11 @@ pub trait Group {
     fn item(&self, place: usize) -> Option<Item<'_>>
         requires { IsAlike self.now }
         ensures { IfSome result (λ item. IsItem item (word self.now) (slice_get (works self.now) place)) };
+
+    /// Whether the call at a place is known to read what the one before it reads, so that the same comes of both.
+    fn is_again(&self, place: usize) -> bool
+        requires { IsAlike self.now }
+        ensures { IsTrue result → (before : ℕ) × (place ≡ before + 1) × (slice_get (works self.now) place ≡ slice_get (works self.now) before) };
 }
 
 /// Calls of one word that were judged before.
@@ -62,5 +67,9 @@ impl Group for AllJudged<'_> {
     fn item(&self, place: usize) -> Option<Item<'_>> {
         let judged = self.group.get(place)?;
         Some(Item::Judged(*judged))
+    }
+
+    fn is_again(&self, _place: usize) -> bool {
+        false
     }
 }

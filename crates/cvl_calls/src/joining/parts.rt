@@ -1,6 +1,6 @@
 //! The operands of the calls of a group, as a joined kernel takes them.
 
-ghost use Rattle.std.specs.Prelude.{◌≡◌, ℕ, Err, Ok, Some, map, slice_get, All, IfOk};
+ghost use Rattle.std.specs.Prelude.{◌≡◌, ℕ, Err, Ok, Some, length, map, slice_get, take, All, IfOk};
 ghost use Rattle.std.specs.Thread.{IsSync};
 ghost use Rattle.cvl_text.specs.declared.fault.Fault.{Fault};
 ghost use Rattle.cvl_text.specs.declared.word.Word.{Word};
@@ -83,6 +83,32 @@ fn part_at<'a, P: Copy, T: Stored, K: Joins<'a, P, T>, G: Group>(
     }
 }
 
+/// The operands of the call at a place, behind those of the calls before it: those of the last of them again, where it reads the same.
+#[inline(always)]
+fn next_part<'a, P: Copy, T: Stored, K: Joins<'a, P, T>, G: Group>(
+    execution: &impl Execution,
+    alloc: Global,
+    meter: &Meter,
+    kernel: K,
+    group: &'a G,
+    before: &[P],
+    place: usize,
+) -> Result<P, Stop>
+    requires alike { G.IsAlike group.now }
+    requires word { G.word group.now ≡ K.word kernel }
+    requires place { place ≡ length before.now }
+    requires taken { All (K.Takes kernel) before.now }
+    requires made { map (λ part. Ok (Stores (T.content (K.makes kernel part)))) before.now ≡ take place (G.works group.now) }
+    ensures takes { IfOk result (K.Takes kernel) }
+    ensures makes { IfOk result (λ part. slice_get (G.works group.now) place ≡ Some (Ok (Stores (T.content (K.makes kernel part))))) }
+    ensures fault { (fault : Fault) → result ≡ Err (Stop.Fault fault) → slice_get (G.works group.now) place ≡ Some (Err fault) }
+{
+    if group.is_again(place) {
+        return Ok(before[place - 1]);
+    }
+    part_at(execution, alloc, meter, kernel, group, place)
+}
+
 /// The operands of all calls.
 #[inline(always)]
 pub(crate) fn parts_of<'a, P: Copy, T: Stored, K: Joins<'a, P, T>, G: Group>(
@@ -101,7 +127,8 @@ pub(crate) fn parts_of<'a, P: Copy, T: Stored, K: Joins<'a, P, T>, G: Group>(
     let count = group.count();
     let mut parts = Vec::with_capacity(alloc, count)?;
     for place in 0..count {
-        parts.push_reserved(part_at(execution, alloc, meter, kernel, group, place)?);
+        let part = next_part(execution, alloc, meter, kernel, group, &parts, place)?;
+        parts.push_reserved(part);
     }
     Ok(parts)
 }

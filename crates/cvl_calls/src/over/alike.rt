@@ -42,6 +42,10 @@ impl Group for CallsOn<'_> {
         let call = self.calls.get(place)?;
         Some(Item::Call(self.memory, *call))
     }
+
+    fn is_again(&self, _place: usize) -> bool {
+        false
+    }
 }
 
 /// The targets of calls, if each has one and there is memory for their list.

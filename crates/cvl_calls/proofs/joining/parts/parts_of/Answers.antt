@@ -1,4 +1,4 @@
-use Rattle.std.proofs.Common.{arith, ◌≡◌, ◌<◌, All, Ok, Result, ap, length, map, subst, sym, ◌∙◌}
+use Rattle.std.proofs.Common.{rules, arith, ◌≡◌, ◌<◌, All, Ok, Result, ap, length, map, subst, sym, ◌∙◌}
 use Rattle.std.proofs.lemmas.List.Elements.{All-push}
 use Rattle.cvl_text.specs.declared.fault.Fault.{Fault}
 use Rattle.cvl_calls.specs.Outcomes.{Effect, Stores}
@@ -11,7 +11,7 @@ loop-place-preserved g c =
     let f : g.row.P.Denot → Result Effect Fault = λ part. Ok (Stores (g.T.Stored.content (g.K.Kernel.makes c.args.kernel part))) in
     let parts = c.loop-place.parts.items in
     let i = c.loop-place.place in
-    let p = c.in_ok-part_at.field-0 in
+    let p = c.in_ok-part.part in
     let inv = c.loop-place.invariant in
     let low = c.loop-place-test.true in
     let end = c.count-count.ensures in
@@ -20,8 +20,17 @@ loop-place-preserved g c =
     let long = inv.long in
     let lt : i < length works = omega arith in
     record {
-      takes = subst (All (g.K.Kernel.Takes c.args.kernel)) (sym items) (All-push (g.K.Kernel.Takes c.args.kernel) parts p inv.takes c.in_ok-part_at.ensures.takes);
-      makes = ap (map f) items ∙ made-more f parts p works i inv.makes c.in_ok-part_at.ensures.makes lt;
+      takes = subst (All (g.K.Kernel.Takes c.args.kernel)) (sym items) (All-push (g.K.Kernel.Takes c.args.kernel) parts p inv.takes c.in_ok-part.ensures.takes);
+      makes = ap (map f) items ∙ made-more f parts p works i inv.makes c.in_ok-part.ensures.makes lt;
       long = omega arith;
       room = c.push_reserved.ensures.capacity ∙ inv.room;
     }
+
+pub next_part-requires-sync-typeof-execution-Shared : goal.next_part-requires-sync-typeof-execution-Shared
+next_part-requires-sync-typeof-execution-Shared g c κs within =
+    let f : g.row.P.Denot → Result Effect Fault = λ part. Ok (Stores (g.T.Stored.content (g.K.Kernel.makes c.args.kernel part))) in
+    let same = c.deref.ensures.value in
+    let inv = c.loop-place.invariant in
+    let place : c.loop-place.place ≡ length c.deref.result.now = sym (c.deref.ensures.len ∙ inv.long) in
+    let taken = subst (All (g.K.Kernel.Takes c.args.kernel)) (sym same) inv.takes in
+    (search rules, (search rules, (c.requires.alike, (c.requires.word, (place, (taken, ap (map f) same ∙ inv.makes))))))

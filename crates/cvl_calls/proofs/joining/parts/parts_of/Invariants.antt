@@ -1,4 +1,4 @@
-use Rattle.std.proofs.Common.{◌≡◌, All, Ok, length, map, take, vec_len, vec_capacity}
+use Rattle.std.proofs.Common.{◌≡◌, All, Ok, map, take, vec_len, vec_capacity}
 use Rattle.cvl_calls.specs.Outcomes.{Stores}
 use Rattle.cvl_calls.proofs.joining.parts.parts_of.Given as goal
 
