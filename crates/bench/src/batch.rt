@@ -31,6 +31,9 @@ const TIMED: u32 = 960;
 /// How many of them where vectors are long.
 const TIMED_LONG: u32 = 192;
 
+/// How many rounds go before those that are timed: in the first a book has no vectors to replace yet, in the second none that are kept.
+const UNTIMED: u32 = 3;
+
 /// How many times each way is timed.
 const REPEATS: u32 = 400;
 
@@ -207,8 +210,8 @@ fn serve(
     Some(())
 }
 
-/// Serves the calls once on a new book, and then so many rounds of them: the time of these in nanoseconds; four seconds where it
-/// is longer.
+/// Serves the calls on a new book, and then so many rounds of them that are timed: the time of these in nanoseconds; four seconds
+/// where it is longer.
 fn time_on(
     rt: &impl Clock,
     execution: &impl Execution,
@@ -220,9 +223,13 @@ fn time_on(
     way: Way,
     lists: &mut Lists,
 ) -> Option<u32> {
-    let space = rounds.saturating_add(1).saturating_mul(BATCH_LIMIT as u32);
+    let space = rounds
+        .saturating_add(UNTIMED)
+        .saturating_mul(BATCH_LIMIT as u32);
     prepare(alloc, book, calls, items, space)?;
-    serve(execution, alloc, book, calls, way, lists)?;
+    for _ in 0..UNTIMED {
+        serve(execution, alloc, book, calls, way, lists)?;
+    }
     let start = Instant::now(rt).ok()?;
     for _ in 0..rounds {
         serve(execution, alloc, book, calls, way, lists)?;
