@@ -1,5 +1,5 @@
 -- Alike calls in one wave: the requests are apart (`wave-apart-all`), and the places of one wave are all places (`one-wave`).
-use Rattle.std.proofs.Common.{◌≡◌, ◌==◌, ◌++◌, ℕ, zero, suc, ◌+◌, ◌-◌, ◌^◌, ◌<◌, ◌≤◌, ◌&&◌, ◌||◌, All, Bool, IfOk, IfSome, true, false, cond, List, [], ◌∷◌, length, map, filter, Some, Result, Ok, Err, refl, sym, ap, ◌∙◌, subst, arith, append-nil, slice_get, slice_index}
+use Rattle.std.proofs.Common.{◌≡◌, ◌==◌, ◌++◌, ℕ, zero, suc, ◌+◌, ◌<◌, ◌≤◌, ◌&&◌, ◌||◌, All, Bool, IfOk, IfSome, true, false, cond, List, [], ◌∷◌, length, map, filter, Some, Result, Ok, Err, refl, sym, ap, ◌∙◌, subst, arith, append-nil, slice_get, slice_index}
 use Rattle.std.specs.List.{AllByRecursion, list_any, range_with_len}
 use Rattle.std.specs.Result.{result_ok}
 use Rattle.std.proofs.lemmas.List.{length-map}
@@ -9,7 +9,6 @@ use Rattle.cvl_text.specs.declared.word.Word.TheVariants as words
 use Rattle.cvl_text.specs.declared.word.AskWord.TheVariants as asks
 use Rattle.cvl_text.specs.Tasks.{Task, task_of}
 use Rattle.cvl_calls.specs.Runs.{TakesNoMemory, runs_kernel}
-use Rattle.call_history.specs.Blocks.{RisesBy}
 use Rattle.call_history.specs.declared.request.Job.{Job}
 use Rattle.call_history.specs.declared.request.Job.TheVariants.{One, Many}
 use Rattle.call_history.specs.declared.request.Request.{Request}
@@ -28,12 +27,9 @@ pub if-ok-some : {X E : Type 0} (r : Result X E) (P Q : X → Type 0) → ((x : 
 if-ok-some (Ok x) P Q goes said = goes x said
 if-ok-some (Err e) P Q goes said = tt
 
--- a meter that rose is the old one with as many runs more
-pub risen-by : (n : ℕ) → (old new : Metered) → RisesBy n old new → old.runs < 2 ^ 64 → new ≡ record old { runs = old.runs + (new.runs - old.runs) }
-risen-by n old new rose fits =
-    let up = (rose.rises fits).0 in
-    let count : new.runs ≡ old.runs + (new.runs - old.runs) = omega arith in
-    λ i. record { runs = count i; chunk = rose.chunk i }
+-- a meter that rose is the old one with as many runs as it has now
+pub as-risen : (old new : Metered) → new.chunk ≡ old.chunk → new ≡ record old { runs = new.runs }
+as-risen old new same = λ i. record { runs = new.runs; chunk = same i }
 
 or_false : (a b : Bool) → (a || b) ≡ false → (a ≡ false) × (b ≡ false)
 or_false true b e = absurd cc

@@ -1,5 +1,5 @@
 -- A batch of alike calls in one wave: each request is for a single call of one word, and none reads the target of an earlier one.
-use Rattle.std.specs.Prelude.{◌≡◌, ◌⊎◌, ◌<◌, ◌≤◌, ◌+◌, ℕ, zero, suc, All, false, List, [], ◌∷◌, length, map, Result, Ok, Some}
+use Rattle.std.specs.Prelude.{◌≡◌, ◌≤◌, ◌+◌, ℕ, zero, suc, All, false, List, [], ◌∷◌, length, map, Result, Ok, Some}
 use Rattle.std.specs.List.{AllByRecursion}
 use Rattle.scan_kernels.specs.Metering.{Metered}
 use Rattle.vector_memory.specs.States.{State}
@@ -18,7 +18,6 @@ use Rattle.call_history.specs.declared.request.Outcome.{Outcome}
 use Rattle.call_history.specs.declared.request.Outcome.TheVariants.{Answered}
 use Rattle.call_history.specs.Books.{BookState, memory_of}
 use Rattle.call_history.specs.Fits.{returned}
-use Rattle.batch_flatten.specs.declared.ran.Ran.{Ran}
 use Rattle.batch_flatten.specs.Waves.{asked, jobs_clash}
 use Rattle.batch_flatten.specs.Batches.{AnswersAllSure, ServesInOrder}
 use Rattle.batch_flatten.specs.Counts.{kernel_bound, wave_count, word_asked}
@@ -50,15 +49,16 @@ IsCall (Many calls) = ⊥
 abbrev pub IsForCall : Request → Type 0
 IsForCall r = IsCall r.job
 
--- The requests were served in one wave, or the history could not be reserved and each job came back.
-pub record ServesAlike (old new : BookState) (requests : List Request) (outcomes : List Outcome) (ran : Ran) (before after : Metered) : Type 0 where
+-- The requests were served in one wave, and so many of them by themselves though they were to be joined.
+pub record ServesAlike (old new : BookState) (requests : List Request) (outcomes : List Outcome) (singles : ℕ) (before after : Metered) : Type 0 where
   pub serves : ServesInOrder old.bounds old.history requests new.history outcomes
   pub bounds : new.bounds ≡ old.bounds
-  pub waves : (ran.waves ≡ wave_count requests) ⊎ ((ran ≡ record { waves = 0; kernels = 0; singles = 0 }) × (new.history ≡ old.history) × (outcomes ≡ map returned requests))
-  pub sure : 0 < ran.waves → AnswersAllSure requests outcomes
-  pub bound : ran.kernels ≤ kernel_bound requests + ran.singles
-  pub few_singles : ran.singles ≤ length requests
-  pub kernels : after ≡ record before { runs = before.runs + ran.kernels }
+  pub one_wave : wave_count requests ≡ 1
+  pub sure : AnswersAllSure requests outcomes
+  pub rises : before.runs ≤ after.runs
+  pub bound : after.runs ≤ before.runs + kernel_bound requests + singles
+  pub few_singles : singles ≤ length requests
+  pub kernels : after ≡ record before { runs = after.runs }
 
 -- so many outcomes of calls that are done, at places one behind another
 abbrev pub done_from : ℕ → ℕ → List Outcome

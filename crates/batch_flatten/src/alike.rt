@@ -2,7 +2,7 @@
 //! its requests nothing is noted. Where memory is wanted for that kernel, the calls run by themselves; where a call has a fault, the
 //! batch is served as any other.
 
-ghost use Rattle.std.specs.Prelude.{◌≡◌, ◌≢◌, ◌<◌, ◌≤◌, [], length, vec_len, vec_capacity, IfNone, IfOk, IfSome, IsTrue, OnErr, OnOk, OnSome};
+ghost use Rattle.std.specs.Prelude.{◌≡◌, ◌≢◌, ◌<◌, ◌≤◌, [], length, vec_len, vec_capacity, IfNone, IfSome, IsTrue, OnErr, OnOk, OnSome};
 ghost use Rattle.std.specs.List.{AllByRecursion, AllPairs, list_any};
 ghost use Rattle.scan_kernels.specs.Metering.{raised};
 ghost use Rattle.cvl_calls.specs.Runs.{runs_kernel};
@@ -19,8 +19,7 @@ use crate::made::make_all;
 use crate::made_turns::serve_made;
 use crate::plan::BATCH_LIMIT;
 use crate::planning::waves;
-use crate::ran::Ran;
-use crate::roll::{hand_back, job_word, wave_count};
+use crate::roll::{job_word, wave_count};
 use crate::singly::serve_singly;
 use call_history::{Book, Outcome, Request};
 use cvl_calls::{Made, Stop, runs_kernel};
@@ -97,16 +96,17 @@ fn make_on(
     book: &mut Book,
     requests: &[Request],
     word: Word,
-) -> Result<Made, Stop>
+    made: &mut Made,
+) -> Result<(), Stop>
     requires alike { AreOfWord word requests.now }
     requires kernel { IsTrue (runs_kernel word) }
-    ensures made { IfOk result (λ made. AreMadeOf (memory_of book.old) requests.now (effects_of made)) }
+    ensures made { OnOk result (AreMadeOf (memory_of book.old) requests.now (effects_of made.new)) }
     ensures counted { OnOk result (meter.new ≡ raised meter.old) }
     ensures stays { OnErr result (meter.new ≡ meter.old) }
     ensures book { book.new ≡ book.old }
 {
     let mut shelves = book.take_shelves();
-    let made = make_all(
+    let ended = make_all(
         execution,
         alloc,
         meter,
@@ -114,13 +114,14 @@ fn make_on(
         book.memory(),
         requests,
         word,
+        made,
     );
     book.put_shelves(shelves);
-    made
+    ended
 }
 
-/// Serves a batch of alike calls in one wave. Where the history cannot be reserved, each call comes back; where memory is wanted
-/// before the calls are made, they run by themselves. None where it is no such batch, or a call has a fault; then nothing has
+/// Serves a batch of alike calls in one wave, by one kernel run; where memory is wanted before the calls are made, they run by themselves.
+/// Answers how many did. None where it is no such batch, a call has a fault, or the history cannot be reserved; then nothing has
 /// changed.
 #[inline(never)]
 pub(crate) fn serve_alike(
@@ -130,13 +131,13 @@ pub(crate) fn serve_alike(
     requests: &mut Vec<Request>,
     outcomes: &mut Vec<Outcome>,
     meter: &mut Meter,
-) -> Option<Ran>
+) -> Option<u64>
     requires few { vec_len requests.old ≤ BATCH_LIMIT }
     requires lawful { AllByRecursion (λ r. r.caller < caller_limit) requests.old.items }
     requires distinct { AllPairs (λ r s. r.caller ≢ s.caller) requests.old.items }
     requires empty { outcomes.old.items ≡ [] }
     requires spaces { vec_len requests.old ≤ vec_capacity outcomes.old }
-    ensures served { IfSome result (λ ran. ServesAlike book.old book.new requests.old.items outcomes.new.items ran meter.old meter.new) }
+    ensures served { IfSome result (λ singles. ServesAlike book.old book.new requests.old.items outcomes.new.items singles meter.old meter.new) }
     ensures emptied { OnSome result (requests.new.items ≡ []) }
     ensures history { IfNone result (book.new.history ≡ book.old.history) }
     ensures bounds { IfNone result (book.new.bounds ≡ book.old.bounds) }
@@ -146,40 +147,27 @@ pub(crate) fn serve_alike(
     ensures request_spaces { vec_capacity requests.new ≡ vec_capacity requests.old }
     ensures outcome_spaces { vec_capacity outcomes.new ≡ vec_capacity outcomes.old }
 {
-    // In a book no block is cut.
+    // In a book no block is cut, and a meter counts no further than its integers go.
     let _entries = book.len();
+    let _runs = meter.runs();
     let word = common_word(requests)?;
     if !are_one_wave(requests) {
         return None;
     }
     let count = requests.len();
     let Ok(()) = book.reserve(count) else {
-        hand_back(requests, outcomes);
-        return Some(Ran::NOTHING);
+        return None;
     };
-    let before = meter.runs();
-    match make_on(execution, alloc, meter, book, requests, word) {
-        Ok(made) => {
+    let mut made = Made::nothing(alloc);
+    match make_on(execution, alloc, meter, book, requests, word, &mut made) {
+        Ok(()) => {
             serve_made(alloc, book, requests, made, outcomes);
-            Some(one_wave(meter.runs() - before, 0))
+            Some(0)
         }
         Err(Stop::OutOfMemory) => {
             serve_singly(execution, alloc, meter, book, requests, outcomes);
-            Some(one_wave(meter.runs() - before, count as u64))
+            Some(count as u64)
         }
         Err(Stop::Fault(_)) => None,
-    }
-}
-
-/// What a batch of one wave did: so many kernels ran, and so many calls by themselves though they were to be joined.
-pub(crate) fn one_wave(kernels: u64, singles: u64) -> Ran
-    ensures waves { result.waves ≡ 1 }
-    ensures kernels { result.kernels ≡ kernels }
-    ensures singles { result.singles ≡ singles }
-{
-    Ran {
-        waves: 1,
-        kernels,
-        singles,
     }
 }

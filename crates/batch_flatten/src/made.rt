@@ -91,10 +91,11 @@ pub(crate) fn make_all(
     memory: &Memory,
     requests: &[Request],
     word: Word,
-) -> Result<Made, Stop>
+    made: &mut Made,
+) -> Result<(), Stop>
     requires alike { AreOfWord word requests.now }
     requires kernel { IsTrue (runs_kernel word) }
-    ensures made { IfOk result (λ made. AreMadeOf memory.now requests.now (effects_of made)) }
+    ensures made { OnOk result (AreMadeOf memory.now requests.now (effects_of made.new)) }
     ensures counted { OnOk result (meter.new ≡ raised meter.old) }
     ensures stays { OnErr result (meter.new ≡ meter.old) }
 {
@@ -103,5 +104,5 @@ pub(crate) fn make_all(
         word,
         requests,
     };
-    run_group(execution, alloc, meter, shelves, word, &asked)
+    run_group(execution, alloc, meter, shelves, word, &asked, made)
 }

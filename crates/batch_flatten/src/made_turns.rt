@@ -31,17 +31,18 @@ pub(crate) trait Turned: Drop {
     /// What it is.
     ghost effect: { Self → Effect };
 
-    /// As work.
-    fn work(self) -> Work
-        ensures work { IsWork result (Ok (effect self)) };
+    /// Takes it, as work.
+    fn work(&mut self) -> Work
+        ensures work { IsWork result (Ok (effect self.old)) };
 }
 
 impl Turned for Vec<i64> {
     ghost effect = { λ v. Stores (Ints v.items) };
 
     #[inline(always)]
-    fn work(self) -> Work {
-        Work::Store(Value::Ints(self))
+    fn work(&mut self) -> Work {
+        let alloc = *self.allocator();
+        Work::Store(Value::Ints(mem::replace(self, Vec::new(alloc))))
     }
 }
 
@@ -49,8 +50,9 @@ impl Turned for Vec<bool> {
     ghost effect = { λ v. Stores (Bools v.items) };
 
     #[inline(always)]
-    fn work(self) -> Work {
-        Work::Store(Value::Bools(self))
+    fn work(&mut self) -> Work {
+        let alloc = *self.allocator();
+        Work::Store(Value::Bools(mem::replace(self, Vec::new(alloc))))
     }
 }
 
@@ -58,8 +60,8 @@ impl Turned for i64 {
     ghost effect = { λ x. Answers (IntOf x) };
 
     #[inline(always)]
-    fn work(self) -> Work {
-        Work::Say(Reply::Int(self))
+    fn work(&mut self) -> Work {
+        Work::Say(Reply::Int(*self))
     }
 }
 
@@ -67,8 +69,8 @@ impl Turned for bool {
     ghost effect = { λ x. Answers (BoolOf x) };
 
     #[inline(always)]
-    fn work(self) -> Work {
-        Work::Say(Reply::Bool(self))
+    fn work(&mut self) -> Work {
+        Work::Say(Reply::Bool(*self))
     }
 }
 
@@ -155,13 +157,13 @@ fn serve_each<T: Turned>(
     alloc: Global,
     book: &mut Book,
     requests: &mut Vec<Request>,
-    made: Vec<T>,
+    made: &mut Vec<T>,
     outcomes: &mut Vec<Outcome>,
 )
     requires lawful { AllByRecursion (λ r. r.caller < caller_limit) requests.old.items }
     requires distinct { AllPairs (λ r s. r.caller ≢ s.caller) requests.old.items }
     requires apart { AllApart requests.old.items }
-    requires made { AreMadeOf (memory_of book.old) requests.old.items (map T.effect made.items) }
+    requires made { AreMadeOf (memory_of book.old) requests.old.items (map T.effect made.old.items) }
     requires space { vec_len requests.old ≤ book.old.spaces }
     requires empty { outcomes.old.items ≡ [] }
     requires room { vec_len requests.old ≤ vec_capacity outcomes.old }
@@ -172,9 +174,9 @@ fn serve_each<T: Turned>(
 {
     // In a book no block is cut.
     let _entries = book.len();
-    for one in made {
-        let place = outcomes.len();
-        serve_one(alloc, book, &mut requests[place], one.work(), outcomes);
+    for place in 0..requests.len() {
+        let work = made[place].work();
+        serve_one(alloc, book, &mut requests[place], work, outcomes);
     }
 }
 
@@ -183,7 +185,7 @@ pub(crate) fn serve_made(
     alloc: Global,
     book: &mut Book,
     requests: &mut Vec<Request>,
-    made: Made,
+    mut made: Made,
     outcomes: &mut Vec<Outcome>,
 )
     requires lawful { AllByRecursion (λ r. r.caller < caller_limit) requests.old.items }
@@ -199,11 +201,12 @@ pub(crate) fn serve_made(
     ensures request_spaces { vec_capacity requests.new ≡ vec_capacity requests.old }
     ensures outcome_spaces { vec_capacity outcomes.new ≡ vec_capacity outcomes.old }
 {
-    match made {
+    match &mut made {
         Made::Ints(vectors) => serve_each(alloc, book, requests, vectors, outcomes),
         Made::Bools(vectors) => serve_each(alloc, book, requests, vectors, outcomes),
         Made::Numbers(items) => serve_each(alloc, book, requests, items, outcomes),
         Made::Truths(items) => serve_each(alloc, book, requests, items, outcomes),
     }
+    book.keep_list(alloc, made);
     requests.clear();
 }

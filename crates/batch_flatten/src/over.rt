@@ -1,16 +1,15 @@
 //! A batch of alike calls in one wave that write their integers over those at their targets, by one kernel run: so long vectors lie once
 //! in memory, and not beside those that they replace.
 
-ghost use Rattle.std.specs.Prelude.{◌≡◌, ◌≢◌, ◌+◌, ◌<◌, ◌≤◌, ◌^◌, ◌++◌, [], false, length, map, vec_len, vec_capacity, IfNone, IfSome, IsTrue, OnSome};
+ghost use Rattle.std.specs.Prelude.{◌≡◌, ◌≢◌, ◌+◌, ◌<◌, ◌≤◌, ◌^◌, ◌++◌, [], false, length, map, vec_len, vec_capacity, IfSome, IsTrue};
 ghost use Rattle.std.specs.List.{AllByRecursion, AllPairs};
 ghost use Rattle.scan_kernels.specs.Metering.{raised};
 ghost use Rattle.cvl_calls.specs.Runs.{runs_kernel};
 ghost use Rattle.call_history.specs.Callers.{caller_limit};
 ghost use Rattle.batch_flatten.specs.Alike.{AreOfWord, RunTogether, ServesAlike, done_from};
 
-use crate::alike::{are_one_wave, common_word, one_wave};
+use crate::alike::{are_one_wave, common_word};
 use crate::plan::BATCH_LIMIT;
-use crate::ran::Ran;
 use call_history::{Book, Job, Outcome, Request};
 use cvl_text::{Call, Reply, Word};
 use scan_kernels::{Execution, Meter};
@@ -87,8 +86,8 @@ fn answer_done(first: u64, count: usize, outcomes: &mut Vec<Outcome>)
     answer_done(first + 1, count - 1, outcomes);
 }
 
-/// Serves a batch of alike calls in one wave whose results are long, as they are where the last joined run made long ones: each is
-/// written over what lies at its target. None where it is no such batch, or cannot be served so; then nothing has changed.
+/// Serves a batch of alike calls in one wave over what lies at their targets: each result is written there. Where it is no such batch, or cannot be
+/// served so, nothing has changed.
 #[inline(never)]
 pub(crate) fn serve_over(
     execution: &impl Execution,
@@ -97,40 +96,39 @@ pub(crate) fn serve_over(
     requests: &mut Vec<Request>,
     outcomes: &mut Vec<Outcome>,
     meter: &mut Meter,
-) -> Option<Ran>
+) -> bool
     requires few { vec_len requests.old ≤ BATCH_LIMIT }
     requires lawful { AllByRecursion (λ r. r.caller < caller_limit) requests.old.items }
     requires distinct { AllPairs (λ r s. r.caller ≢ s.caller) requests.old.items }
     requires empty { outcomes.old.items ≡ [] }
     requires spaces { vec_len requests.old ≤ vec_capacity outcomes.old }
-    ensures served { IfSome result (λ ran. ServesAlike book.old book.new requests.old.items outcomes.new.items ran meter.old meter.new) }
-    ensures emptied { OnSome result (requests.new.items ≡ []) }
-    ensures history { IfNone result (book.new.history ≡ book.old.history) }
-    ensures bounds { IfNone result (book.new.bounds ≡ book.old.bounds) }
-    ensures requests { IfNone result (requests.new.items ≡ requests.old.items) }
-    ensures outcomes { IfNone result (outcomes.new.items ≡ []) }
-    ensures meter { IfNone result (meter.new ≡ meter.old) }
+    ensures served { IsTrue result → ServesAlike book.old book.new requests.old.items outcomes.new.items 0 meter.old meter.new }
+    ensures emptied { IsTrue result → requests.new.items ≡ [] }
+    ensures history { result ≡ false → book.new.history ≡ book.old.history }
+    ensures bounds { result ≡ false → book.new.bounds ≡ book.old.bounds }
+    ensures requests { result ≡ false → requests.new.items ≡ requests.old.items }
+    ensures outcomes { result ≡ false → outcomes.new.items ≡ [] }
+    ensures meter { result ≡ false → meter.new ≡ meter.old }
     ensures request_spaces { vec_capacity requests.new ≡ vec_capacity requests.old }
     ensures outcome_spaces { vec_capacity outcomes.new ≡ vec_capacity outcomes.old }
 {
-    if !book.keeps_long_ints() {
-        return None;
-    }
-    // In a book no block is cut.
+    // In a book no block is cut, and a meter counts no further than its integers go.
     let _entries = book.len();
-    let word = common_word(requests)?;
+    let _runs = meter.runs();
+    let Some(word) = common_word(requests) else {
+        return false;
+    };
     if !are_one_wave(requests) {
-        return None;
+        return false;
     }
     let count = requests.len();
     let Ok(()) = book.reserve(count) else {
-        return None;
+        return false;
     };
-    let before = meter.runs();
     if !run_over(execution, alloc, meter, book, requests, word) {
-        return None;
+        return false;
     }
     answer_done((book.len() - count) as u64, count, outcomes);
     requests.clear();
-    Some(one_wave(meter.runs() - before, 0))
+    true
 }

@@ -121,6 +121,19 @@ fn serve_many(
     }
 }
 
+/// What a batch of one wave did: so many kernels ran, and so many calls by themselves though they were to be joined.
+fn one_wave(kernels: u64, singles: u64) -> Ran
+    ensures waves { result.waves ≡ 1 }
+    ensures kernels { result.kernels ≡ kernels }
+    ensures singles { result.singles ≡ singles }
+{
+    Ran {
+        waves: 1,
+        kernels,
+        singles,
+    }
+}
+
 /// Serves the requests of a batch in the order of their waves. What became of them stands in their own order. A block takes its turn
 /// as one: its calls stand next to one another in the history, or all of them come back. Where the history cannot be reserved, each
 /// job comes back and nothing changes.
@@ -153,11 +166,13 @@ pub fn run_batch(
     if requests.len() < 2 {
         return serve_alone(execution, alloc, book, requests, outcomes, meter);
     }
-    if let Some(ran) = serve_over(execution, alloc, book, requests, outcomes, meter) {
-        return ran;
+    let before = meter.runs();
+    // Where the last joined run made long results, the next are long as well, as a rule.
+    if book.keeps_long_ints() && serve_over(execution, alloc, book, requests, outcomes, meter) {
+        return one_wave(meter.runs() - before, 0);
     }
     match serve_alike(execution, alloc, book, requests, outcomes, meter) {
-        Some(ran) => ran,
+        Some(singles) => one_wave(meter.runs() - before, singles),
         None => serve_many(execution, alloc, book, requests, outcomes, meter),
     }
 }

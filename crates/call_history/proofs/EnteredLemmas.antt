@@ -1,6 +1,6 @@
 -- Calls of several callers that ran together: their history, replayed, is the memory that they lead to (`replay-entered`), and no block of
 -- it is cut (`whole-entered`).
-use Rattle.std.proofs.Common.{◌≡◌, ◌+◌, ◌<◌, ℕ, List, [], ◌∷◌, ◌++◌, length, map, refl, sym, ap, ◌∙◌, arith, append_assoc}
+use Rattle.std.proofs.Common.{◌≡◌, ℕ, List, [], ◌∷◌, ◌++◌, length, map, refl, ap, ◌∙◌, arith, append_assoc}
 use Rattle.vector_memory.specs.States.{State, bounds_of}
 use Rattle.cvl_text.specs.declared.call.Call.{Call}
 use Rattle.cvl_text.specs.Tasks.{task_of}

@@ -24,7 +24,7 @@ use crate::entry::EntryRef;
 use crate::kept::{Kept, brief};
 use crate::log::Log;
 use crate::work::{Unserved, Work};
-use cvl_calls::{Product, Shelves, Spare, apply_joined, step_alike, step_with, target};
+use cvl_calls::{Made, Product, Shelves, Spare, apply_joined, step_alike, step_with, target};
 use cvl_text::{Call, Reply, Word};
 use scan_kernels::{Execution, Meter};
 use std::alloc::Global;
@@ -521,6 +521,14 @@ impl Book {
         ensures { self.new ≡ self.old }
     {
         self.spare.put_shelves(shelves);
+    }
+
+    /// Keeps the list of what a joined run made, for the next of these.
+    #[inline(always)]
+    pub fn keep_list(&mut self, alloc: Global, made: Made)
+        ensures { self.new ≡ self.old }
+    {
+        self.spare.keep_list(alloc, made);
     }
 
     /// Runs the calls of the history anew, on a memory of its own, and answers whether names, their order and their values

@@ -1,9 +1,8 @@
 -- Calls that write over what lies at their targets, all at once: what is taken out leaves room for as much (`room_for`), what was taken may
 -- go back (`put_back`), and putting what the calls made is what they do one by one (`done_over`).
-use Rattle.std.proofs.Common.{◌≡◌, ◌≢◌, ◌+◌, ◌<◌, ◌≤◌, ℕ, ℤ, Bool, true, false, cond, List, [], ◌∷◌, length, map, Option, Some, None, Result, Ok, refl, sym, ap, ◌∙◌, ◌++◌, subst, arith, append_assoc}
-use Rattle.std.specs.Prelude.{is_some, unwrap_or}
+use Rattle.std.proofs.Common.{◌≡◌, ◌≢◌, ◌+◌, ◌<◌, ◌≤◌, ℕ, ℤ, Bool, true, false, List, [], ◌∷◌, length, map, Option, Some, None, Result, Ok, refl, sym, ap, ◌∙◌, ◌++◌, subst, arith, append_assoc}
+use Rattle.std.specs.Prelude.{unwrap_or}
 use Rattle.std.specs.List.{AllByRecursion, filter_map}
-use Rattle.std.specs.Map.{lookup}
 use Rattle.std.specs.Option.{option_map}
 use Rattle.std.proofs.lemmas.Cmp.{nat_list_eq_equiv}
 use Rattle.std.proofs.lemmas.List.{map_push}
@@ -11,7 +10,7 @@ use Rattle.std.proofs.lemmas.Simd.{map-map}
 use Rattle.vector_memory.specs.declared.name.Name.{Name}
 use Rattle.vector_memory.specs.Contents.{Content, Ints, size_of}
 use Rattle.vector_memory.specs.Names.{same_name}
-use Rattle.vector_memory.specs.States.{State, IsLawful, cells_after, cells_of, old_size, put, refusal, spent, value_at}
+use Rattle.vector_memory.specs.States.{State, IsLawful, cells_of, old_size, put, spent, value_at}
 use Rattle.vector_memory.proofs.BlockLemmas.{same_text}
 use Rattle.vector_memory.proofs.Putting.{lookup-inserted, not_refused, put-put, value_at-put}
 use Rattle.vector_memory.proofs.Swapping.{put-same, put-swapped}

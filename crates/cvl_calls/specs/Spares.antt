@@ -26,6 +26,11 @@ kept_limit = 50331648
 abbrev pub kept_bytes : ℕ → ℕ → ℕ
 kept_bytes ints bools = 8 * ints + bools
 
+-- for how many items the vectors of a shelf have space, if there is one
+abbrev pub shelved : Option (Box ℕ Global) → ℕ
+shelved None = 0
+shelved (Some shelf) = shelf.value
+
 -- the bytes that are kept for joined runs, if any were
 abbrev pub shelved_bytes : Option (Box ℕ Global) → ℕ
 shelved_bytes None = 0

@@ -1,6 +1,6 @@
 //! Alike calls, run together: one kernel run over their joined operands, which are gathered and not copied.
 
-ghost use Rattle.std.specs.Prelude.{◌≡◌, ℕ, Err, Ok, Some, map, slice_get, All, IfOk, IsTrue};
+ghost use Rattle.std.specs.Prelude.{◌≡◌, ℕ, Err, Ok, Some, map, slice_get, All, IfOk, IsTrue, OnOk};
 ghost use Rattle.cvl_text.specs.declared.fault.Fault.{Fault};
 ghost use Rattle.scan_kernels.specs.Metering.{CountsRun};
 ghost use Rattle.cvl_calls.specs.Joined.{effects_of};
@@ -9,6 +9,7 @@ ghost use Rattle.cvl_calls.specs.Outcomes.{effect_of};
 ghost use Rattle.cvl_calls.specs.Runs.{runs_kernel};
 
 mod elementwise;
+mod few;
 mod group;
 mod moves;
 mod over;
@@ -76,8 +77,9 @@ pub fn run_joined_with(
 {
     let products = Vec::with_capacity(alloc, group.len())?;
     let judged = AllJudged { word, group };
-    match run_group(execution, alloc, meter, shelves, word, &judged) {
-        Ok(made) => Ok(products_of(products, made)),
+    let mut made = Made::nothing(alloc);
+    match run_group(execution, alloc, meter, shelves, word, &judged, &mut made) {
+        Ok(()) => Ok(products_of(products, made)),
         Err(_) => Err(OutOfMemory),
     }
 }
@@ -92,23 +94,24 @@ pub fn run_group<G: Group>(
     shelves: &mut Shelves,
     word: Word,
     group: &G,
-) -> Result<Made, Stop>
+    made: &mut Made,
+) -> Result<(), Stop>
     requires alike { G.IsAlike group.now }
     requires word { G.word group.now ≡ word }
     requires kernel { IsTrue (runs_kernel word) }
-    ensures makes { IfOk result (λ made. map (λ effect. Ok effect) (effects_of made) ≡ G.works group.now) }
+    ensures makes { OnOk result (map (λ effect. Ok effect) (effects_of made.new) ≡ G.works group.now) }
     ensures fault { (fault : Fault) → result ≡ Err (Stop.Fault fault) → (place : ℕ) × (slice_get (G.works group.now) place ≡ Some (Err fault)) }
     ensures counted { CountsRun result meter.old meter.new }
 {
     match word {
-        Word::Ask(inner) => ask(execution, alloc, meter, inner, group),
-        Word::One(inner) => one(execution, alloc, meter, shelves, inner, group),
-        Word::Two(inner) => two(execution, alloc, meter, shelves, inner, group),
-        Word::Three(inner) => three(execution, alloc, meter, shelves, inner, group),
-        Word::BckSeg(kind) => four(execution, alloc, meter, shelves, kind, group),
-        Word::DisZ => ints(execution, alloc, meter, shelves, Repeat, group),
-        Word::DisB => bools(execution, alloc, meter, shelves, Repeat, group),
-        Word::Ind => ints(execution, alloc, meter, shelves, Index, group),
+        Word::Ask(inner) => ask(execution, alloc, meter, shelves, inner, group, made),
+        Word::One(inner) => one(execution, alloc, meter, shelves, inner, group, made),
+        Word::Two(inner) => two(execution, alloc, meter, shelves, inner, group, made),
+        Word::Three(inner) => three(execution, alloc, meter, shelves, inner, group, made),
+        Word::BckSeg(kind) => four(execution, alloc, meter, shelves, kind, group, made),
+        Word::DisZ => ints(execution, alloc, meter, shelves, Repeat, group, made),
+        Word::DisB => bools(execution, alloc, meter, shelves, Repeat, group, made),
+        Word::Ind => ints(execution, alloc, meter, shelves, Index, group, made),
         Word::SetInts => unreachable!(),
         Word::SetBools => unreachable!(),
         Word::Alo => unreachable!(),
@@ -122,19 +125,21 @@ fn ask<G: Group>(
     execution: &impl Execution,
     alloc: Global,
     meter: &mut Meter,
+    shelves: &mut Shelves,
     word: AskWord,
     group: &G,
-) -> Result<Made, Stop>
+    made: &mut Made,
+) -> Result<(), Stop>
     requires alike { G.IsAlike group.now }
     requires word { G.word group.now ≡ Word.Ask word }
     requires kernel { IsTrue (runs_kernel (Word.Ask word)) }
-    ensures makes { IfOk result (λ made. map (λ effect. Ok effect) (effects_of made) ≡ G.works group.now) }
+    ensures makes { OnOk result (map (λ effect. Ok effect) (effects_of made.new) ≡ G.works group.now) }
     ensures fault { (fault : Fault) → result ≡ Err (Stop.Fault fault) → (place : ℕ) × (slice_get (G.works group.now) place ≡ Some (Err fault)) }
     ensures counted { CountsRun result meter.old meter.new }
 {
     match word {
-        AskWord::RedZ(op) => reduced_ints(execution, alloc, meter, op, group),
-        AskWord::RedB(op) => reduced_bools(execution, alloc, meter, op, group),
+        AskWord::RedZ(op) => reduced_ints(execution, alloc, meter, shelves, op, group, made),
+        AskWord::RedB(op) => reduced_bools(execution, alloc, meter, shelves, op, group, made),
         AskWord::Get => unreachable!(),
         AskWord::Free => unreachable!(),
         AskWord::Len => unreachable!(),
@@ -149,21 +154,22 @@ fn one<G: Group>(
     shelves: &mut Shelves,
     inner: OneWord,
     group: &G,
-) -> Result<Made, Stop>
+    made: &mut Made,
+) -> Result<(), Stop>
     requires alike { G.IsAlike group.now }
     requires kernel { IsTrue (runs_kernel (G.word group.now)) }
     requires word { G.word group.now ≡ Word.One inner }
-    ensures makes { IfOk result (λ made. map (λ effect. Ok effect) (effects_of made) ≡ G.works group.now) }
+    ensures makes { OnOk result (map (λ effect. Ok effect) (effects_of made.new) ≡ G.works group.now) }
     ensures fault { (fault : Fault) → result ≡ Err (Stop.Fault fault) → (place : ℕ) × (slice_get (G.works group.now) place ≡ Some (Err fault)) }
     ensures counted { CountsRun result meter.old meter.new }
 {
     match inner {
-        OneWord::MapZ1(op) => ints(execution, alloc, meter, shelves, op, group),
-        OneWord::MapB1(op) => bools(execution, alloc, meter, shelves, op, group),
-        OneWord::Boo => bools(execution, alloc, meter, shelves, Truth, group),
-        OneWord::IntOf => ints(execution, alloc, meter, shelves, Number, group),
-        OneWord::ScanZ(op) => ints(execution, alloc, meter, shelves, ScanInts(op), group),
-        OneWord::ScanB(op) => bools(execution, alloc, meter, shelves, ScanBools(op), group),
+        OneWord::MapZ1(op) => ints(execution, alloc, meter, shelves, op, group, made),
+        OneWord::MapB1(op) => bools(execution, alloc, meter, shelves, op, group, made),
+        OneWord::Boo => bools(execution, alloc, meter, shelves, Truth, group, made),
+        OneWord::IntOf => ints(execution, alloc, meter, shelves, Number, group, made),
+        OneWord::ScanZ(op) => ints(execution, alloc, meter, shelves, ScanInts(op), group, made),
+        OneWord::ScanB(op) => bools(execution, alloc, meter, shelves, ScanBools(op), group, made),
         OneWord::Mov => unreachable!(),
         OneWord::MakeSegs => unreachable!(),
         OneWord::LenSegs => unreachable!(),
@@ -178,18 +184,27 @@ fn two<G: Group>(
     shelves: &mut Shelves,
     inner: TwoWord,
     group: &G,
-) -> Result<Made, Stop>
+    made: &mut Made,
+) -> Result<(), Stop>
     requires alike { G.IsAlike group.now }
     requires word { G.word group.now ≡ Word.Two inner }
-    ensures makes { IfOk result (λ made. map (λ effect. Ok effect) (effects_of made) ≡ G.works group.now) }
+    ensures makes { OnOk result (map (λ effect. Ok effect) (effects_of made.new) ≡ G.works group.now) }
     ensures fault { (fault : Fault) → result ≡ Err (Stop.Fault fault) → (place : ℕ) × (slice_get (G.works group.now) place ≡ Some (Err fault)) }
     ensures counted { CountsRun result meter.old meter.new }
 {
     match inner {
-        TwoWord::MapZ2(op) => ints(execution, alloc, meter, shelves, op, group),
-        TwoWord::CmpZ(op) => bools(execution, alloc, meter, shelves, op, group),
-        TwoWord::MapB2(op) => bools(execution, alloc, meter, shelves, op, group),
-        TwoWord::ScanSegZ(op) => ints(execution, alloc, meter, shelves, ScanIntSegments(op), group),
+        TwoWord::MapZ2(op) => ints(execution, alloc, meter, shelves, op, group, made),
+        TwoWord::CmpZ(op) => bools(execution, alloc, meter, shelves, op, group, made),
+        TwoWord::MapB2(op) => bools(execution, alloc, meter, shelves, op, group, made),
+        TwoWord::ScanSegZ(op) => ints(
+            execution,
+            alloc,
+            meter,
+            shelves,
+            ScanIntSegments(op),
+            group,
+            made,
+        ),
         TwoWord::ScanSegB(op) => bools(
             execution,
             alloc,
@@ -197,6 +212,7 @@ fn two<G: Group>(
             shelves,
             ScanBoolSegments(op),
             group,
+            made,
         ),
         TwoWord::RedSegZ(op) => ints(
             execution,
@@ -205,6 +221,7 @@ fn two<G: Group>(
             shelves,
             ReduceIntSegments(op),
             group,
+            made,
         ),
         TwoWord::RedSegB(op) => bools(
             execution,
@@ -213,16 +230,19 @@ fn two<G: Group>(
             shelves,
             ReduceBoolSegments(op),
             group,
+            made,
         ),
-        TwoWord::DisSeg(Kind::Z) => ints(execution, alloc, meter, shelves, Distribute, group),
-        TwoWord::DisSeg(Kind::B) => bools(execution, alloc, meter, shelves, Distribute, group),
-        TwoWord::Smp(Kind::Z) => ints(execution, alloc, meter, shelves, PermuteWhole, group),
-        TwoWord::Smp(Kind::B) => bools(execution, alloc, meter, shelves, PermuteWhole, group),
-        TwoWord::Bck(Kind::Z) => ints(execution, alloc, meter, shelves, Gather, group),
-        TwoWord::Bck(Kind::B) => bools(execution, alloc, meter, shelves, Gather, group),
-        TwoWord::Pck(Kind::Z) => ints(execution, alloc, meter, shelves, Pack, group),
-        TwoWord::Pck(Kind::B) => bools(execution, alloc, meter, shelves, Pack, group),
-        TwoWord::Pkl => ints(execution, alloc, meter, shelves, PackLengths, group),
+        TwoWord::DisSeg(Kind::Z) => ints(execution, alloc, meter, shelves, Distribute, group, made),
+        TwoWord::DisSeg(Kind::B) => bools(
+            execution, alloc, meter, shelves, Distribute, group, made,
+        ),
+        TwoWord::Smp(Kind::Z) => ints(execution, alloc, meter, shelves, PermuteWhole, group, made),
+        TwoWord::Smp(Kind::B) => bools(execution, alloc, meter, shelves, PermuteWhole, group, made),
+        TwoWord::Bck(Kind::Z) => ints(execution, alloc, meter, shelves, Gather, group, made),
+        TwoWord::Bck(Kind::B) => bools(execution, alloc, meter, shelves, Gather, group, made),
+        TwoWord::Pck(Kind::Z) => ints(execution, alloc, meter, shelves, Pack, group, made),
+        TwoWord::Pck(Kind::B) => bools(execution, alloc, meter, shelves, Pack, group, made),
+        TwoWord::Pkl => ints(execution, alloc, meter, shelves, PackLengths, group, made),
     }
 }
 
@@ -234,21 +254,38 @@ fn three<G: Group>(
     shelves: &mut Shelves,
     inner: ThreeWord,
     group: &G,
-) -> Result<Made, Stop>
+    made: &mut Made,
+) -> Result<(), Stop>
     requires alike { G.IsAlike group.now }
     requires word { G.word group.now ≡ Word.Three inner }
-    ensures makes { IfOk result (λ made. map (λ effect. Ok effect) (effects_of made) ≡ G.works group.now) }
+    ensures makes { OnOk result (map (λ effect. Ok effect) (effects_of made.new) ≡ G.works group.now) }
     ensures fault { (fault : Fault) → result ≡ Err (Stop.Fault fault) → (place : ℕ) × (slice_get (G.works group.now) place ≡ Some (Err fault)) }
     ensures counted { CountsRun result meter.old meter.new }
 {
     match inner {
-        ThreeWord::Sel(Kind::Z) => ints(execution, alloc, meter, shelves, Select, group),
-        ThreeWord::Sel(Kind::B) => bools(execution, alloc, meter, shelves, Select, group),
-        ThreeWord::IndSeg => ints(execution, alloc, meter, shelves, IndexSegments, group),
-        ThreeWord::SmpSeg(Kind::Z) => ints(execution, alloc, meter, shelves, Permute, group),
-        ThreeWord::SmpSeg(Kind::B) => bools(execution, alloc, meter, shelves, Permute, group),
-        ThreeWord::PckSeg(Kind::Z) => ints(execution, alloc, meter, shelves, PackSegments, group),
-        ThreeWord::PckSeg(Kind::B) => bools(execution, alloc, meter, shelves, PackSegments, group),
+        ThreeWord::Sel(Kind::Z) => ints(execution, alloc, meter, shelves, Select, group, made),
+        ThreeWord::Sel(Kind::B) => bools(execution, alloc, meter, shelves, Select, group, made),
+        ThreeWord::IndSeg => ints(execution, alloc, meter, shelves, IndexSegments, group, made),
+        ThreeWord::SmpSeg(Kind::Z) => ints(execution, alloc, meter, shelves, Permute, group, made),
+        ThreeWord::SmpSeg(Kind::B) => bools(execution, alloc, meter, shelves, Permute, group, made),
+        ThreeWord::PckSeg(Kind::Z) => ints(
+            execution,
+            alloc,
+            meter,
+            shelves,
+            PackSegments,
+            group,
+            made,
+        ),
+        ThreeWord::PckSeg(Kind::B) => bools(
+            execution,
+            alloc,
+            meter,
+            shelves,
+            PackSegments,
+            group,
+            made,
+        ),
     }
 }
 
@@ -260,15 +297,16 @@ fn four<G: Group>(
     shelves: &mut Shelves,
     kind: Kind,
     group: &G,
-) -> Result<Made, Stop>
+    made: &mut Made,
+) -> Result<(), Stop>
     requires alike { G.IsAlike group.now }
     requires word { G.word group.now ≡ Word.BckSeg kind }
-    ensures makes { IfOk result (λ made. map (λ effect. Ok effect) (effects_of made) ≡ G.works group.now) }
+    ensures makes { OnOk result (map (λ effect. Ok effect) (effects_of made.new) ≡ G.works group.now) }
     ensures fault { (fault : Fault) → result ≡ Err (Stop.Fault fault) → (place : ℕ) × (slice_get (G.works group.now) place ≡ Some (Err fault)) }
     ensures counted { CountsRun result meter.old meter.new }
 {
     match kind {
-        Kind::Z => ints(execution, alloc, meter, shelves, BackPermute, group),
-        Kind::B => bools(execution, alloc, meter, shelves, BackPermute, group),
+        Kind::Z => ints(execution, alloc, meter, shelves, BackPermute, group, made),
+        Kind::B => bools(execution, alloc, meter, shelves, BackPermute, group, made),
     }
 }

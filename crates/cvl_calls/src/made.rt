@@ -9,6 +9,7 @@ ghost use Rattle.cvl_calls.specs.Outcomes.{Answers, Stores, effect_of};
 
 use crate::product::Product;
 use cvl_text::Reply;
+use std::alloc::Global;
 use vector_memory::Value;
 
 /// What calls of one word make by one kernel run, in their order.
@@ -22,6 +23,16 @@ pub enum Made {
     Numbers(Vec<i64>),
     /// Truth values, to be replied.
     Truths(Vec<bool>),
+}
+
+impl Made {
+    /// What no calls make.
+    #[inline(always)]
+    pub fn nothing(alloc: Global) -> Made
+        ensures { effects_of result ≡ [] }
+    {
+        Made::Numbers(Vec::new(alloc))
+    }
 }
 
 /// Items of which a value may be made.

@@ -3,6 +3,7 @@
 ghost use Rattle.std.specs.Prelude.{◌≡◌, ◌+◌, ◌≤◌};
 ghost use Rattle.cvl_calls.specs.Spares.{kept_beside, kept_limit};
 
+use crate::made::Made;
 use crate::shelves::Shelves;
 use scan_kernels::{Kept, Source};
 use std::alloc::{AllocError, Global};
@@ -108,6 +109,14 @@ impl Spare {
         if let Err(vector) = self.shelves.keep_bools(vector) {
             self.keep(Value::Bools(vector));
         }
+    }
+
+    /// Keeps the list of what a joined run made, for the next of these.
+    #[inline(always)]
+    pub fn keep_list(&mut self, alloc: Global, made: Made)
+        ensures { self.new ≡ self.old }
+    {
+        self.shelves.keep_list(alloc, made);
     }
 
     /// The vectors that are kept for joined runs.

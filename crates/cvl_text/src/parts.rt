@@ -1,6 +1,7 @@
 //! The parts of a call: its word, its target and the names that it reads.
 
 ghost use Rattle.std.specs.Prelude.{◌≡◌, ◌≢◌, ◌↔◌, [], IsTrue};
+ghost use Rattle.std.specs.Option.{option_map};
 ghost use Rattle.cvl_text.specs.Tasks.{task_of, reads, target, four_of};
 ghost use Rattle.cvl_text.specs.Names.{listed};
 
@@ -61,44 +62,52 @@ pub fn call_word(call: &Call) -> Word
 pub fn target(call: &Call) -> Option<Name>
     ensures { result ≡ target (task_of call.now) }
 {
+    lent_target(call).copied()
+}
+
+/// The name that a call writes or frees, lent from it.
+#[inline]
+fn lent_target(call: &Call) -> Option<&Name>
+    ensures { option_map (λ name. name.now) result ≡ target (task_of call.now) }
+{
     match call {
-        Call::SetInts { to, .. } => Some(*to),
-        Call::SetBools { to, .. } => Some(*to),
+        Call::SetInts { to, .. } => Some(to),
+        Call::SetBools { to, .. } => Some(to),
         Call::Get { .. } => None,
-        Call::Mov { to, .. } => Some(*to),
-        Call::Free { a } => Some(*a),
-        Call::Alo { to, .. } => Some(*to),
+        Call::Mov { to, .. } => Some(to),
+        Call::Free { a } => Some(a),
+        Call::Alo { to, .. } => Some(to),
         Call::Len { .. } => None,
-        Call::MakeSegs { to, .. } => Some(*to),
-        Call::LenSegs { to, .. } => Some(*to),
-        Call::MapZ2 { to, .. } => Some(*to),
-        Call::MapZ1 { to, .. } => Some(*to),
-        Call::CmpZ { to, .. } => Some(*to),
-        Call::MapB2 { to, .. } => Some(*to),
-        Call::MapB1 { to, .. } => Some(*to),
-        Call::Sel { to, .. } => Some(*to),
-        Call::Boo { to, .. } => Some(*to),
-        Call::IntOf { to, .. } => Some(*to),
-        Call::ScanOfZ { to, .. } => Some(*to),
-        Call::ScanOfB { to, .. } => Some(*to),
+        Call::MakeSegs { to, .. } => Some(to),
+        Call::LenSegs { to, .. } => Some(to),
+        Call::MapZ2 { to, .. } => Some(to),
+        Call::MapZ1 { to, .. } => Some(to),
+        Call::CmpZ { to, .. } => Some(to),
+        Call::MapB2 { to, .. } => Some(to),
+        Call::MapB1 { to, .. } => Some(to),
+        Call::Sel { to, .. } => Some(to),
+        Call::Boo { to, .. } => Some(to),
+        Call::IntOf { to, .. } => Some(to),
+        Call::ScanOfZ { to, .. } => Some(to),
+        Call::ScanOfB { to, .. } => Some(to),
         Call::RedZ { .. } => None,
         Call::RedB { .. } => None,
-        Call::RedSegZ { to, .. } => Some(*to),
-        Call::RedSegB { to, .. } => Some(*to),
-        Call::DisZ { to, .. } => Some(*to),
-        Call::DisB { to, .. } => Some(*to),
-        Call::DisSeg { to, .. } => Some(*to),
-        Call::Ind { to, .. } => Some(*to),
-        Call::IndSeg { to, .. } => Some(*to),
-        Call::Smp { to, .. } => Some(*to),
-        Call::SmpSeg { to, .. } => Some(*to),
-        Call::Bck { to, .. } => Some(*to),
-        Call::BckSeg { to, .. } => Some(*to),
-        Call::Pck { to, .. } => Some(*to),
-        Call::PckSeg { to, .. } => Some(*to),
-        Call::Pkl { to, .. } => Some(*to),
+        Call::RedSegZ { to, .. } => Some(to),
+        Call::RedSegB { to, .. } => Some(to),
+        Call::DisZ { to, .. } => Some(to),
+        Call::DisB { to, .. } => Some(to),
+        Call::DisSeg { to, .. } => Some(to),
+        Call::Ind { to, .. } => Some(to),
+        Call::IndSeg { to, .. } => Some(to),
+        Call::Smp { to, .. } => Some(to),
+        Call::SmpSeg { to, .. } => Some(to),
+        Call::Bck { to, .. } => Some(to),
+        Call::BckSeg { to, .. } => Some(to),
+        Call::Pck { to, .. } => Some(to),
+        Call::PckSeg { to, .. } => Some(to),
+        Call::Pkl { to, .. } => Some(to),
         Call::Ext { .. } => None,
-        Call::Rep { to, .. } => Some(*to),
+        Call::Rep { to, .. } => Some(to),
     }
 }
 

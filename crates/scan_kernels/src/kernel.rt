@@ -73,7 +73,7 @@ pub fn run_parts<P, K: Kernel<P>>(
     ensures parts { IfOk result (λ made. parts_made made.items ≡ map (K.makes kernel) parts.now) }
     ensures exact { IfOk result (λ made. All IsExact made.items) }
 {
-    let mut made = Vec::with_capacity(shelf.allocator(), parts.len())?;
+    let mut made = shelf.take_list(parts.len())?;
     for part in parts {
         made.push_reserved(kernel.run(shelf, part)?);
     }

@@ -1,10 +1,11 @@
 //! Vectors whose items are of no use any more, for the results of a joined run, which makes many at once.
 
-ghost use Rattle.std.specs.Prelude.{◌≡◌, ◌+◌, ◌<◌, ◌≤◌, length, vec_capacity, IfErr, IfSome, OnErr, OnOk};
+ghost use Rattle.std.specs.Prelude.{◌≡◌, ◌+◌, ◌<◌, ◌≤◌, [], length, vec_capacity, vec_len, IfErr, IfOk, IfSome, OnErr, OnOk};
 
 use crate::source::{Kept, Source, filled};
 use std::alloc::{AllocError, Global};
 use std::marker::Model;
+use std::mem;
 
 /// The greatest number of vectors on a shelf: as many as a batch has calls.
 const SHELF_LIMIT: usize = 64;
@@ -21,17 +22,19 @@ pub(crate) const WORTH_A_SEARCH: usize = 1024;
 pub struct Shelf<T> {
     vectors: Vec<Vec<T>>,
     space: usize,
+    /// An empty list, for the results of the next joined run.
+    list: Vec<Vec<T>>,
 }
 
 impl<T> Model for Shelf<T> {
-    ghost use Rattle.std.specs.Prelude.{ℕ};
+    ghost use Rattle.std.specs.Prelude.{◌≡◌, [], ℕ};
     ghost use Rattle.scan_kernels.specs.Shelves.{IsShelf};
 
     ghost Value = { ℕ };
 
     ghost view = { λ s. s.space };
 
-    ghost invariant = { λ s. IsShelf s.vectors.items s.space };
+    ghost invariant = { λ s. IsShelf s.vectors.items s.space × (s.list.items ≡ []) };
 }
 
 /// Where a vector with space for so many items lies, and for no more; else the last place.
@@ -55,6 +58,7 @@ impl<T> Shelf<T> {
         Shelf {
             vectors: Vec::new(alloc),
             space: 0,
+            list: Vec::new(alloc),
         }
     }
 
@@ -136,6 +140,30 @@ impl<T> Shelf<T> {
         let vector = self.vectors.swap_remove(place);
         self.space -= vector.capacity();
         vector
+    }
+}
+
+impl<T: Copy> Shelf<T> {
+    /// An empty list for so many results: the one that was put back last, if one was.
+    #[inline(always)]
+    pub(crate) fn take_list(&mut self, count: usize) -> Result<Vec<Vec<T>>, AllocError>
+        ensures empty { IfOk result (λ list. list.items ≡ []) }
+        ensures len { IfOk result (λ list. vec_len list ≡ 0) }
+        ensures room { IfOk result (λ list. count ≤ vec_capacity list) }
+    {
+        let empty = Vec::new(self.allocator());
+        let mut list = mem::replace(&mut self.list, empty);
+        list.reserve(count)?;
+        Ok(list)
+    }
+
+    /// Puts a list of results back, without what is left of them, for the next joined run.
+    #[inline(always)]
+    pub fn put_list(&mut self, mut list: Vec<Vec<T>>)
+        ensures { self.new ≡ self.old }
+    {
+        list.clear();
+        self.list = list;
     }
 }
 

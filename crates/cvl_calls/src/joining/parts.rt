@@ -1,15 +1,17 @@
 //! The operands of the calls of a group, as a joined kernel takes them.
 
-ghost use Rattle.std.specs.Prelude.{◌≡◌, ℕ, Err, Ok, Some, length, map, slice_get, take, All, IfOk};
+ghost use Rattle.std.specs.Prelude.{◌≡◌, ◌≤◌, ℕ, Err, Ok, Some, length, map, slice_get, take, All, IfOk, OnOk};
 ghost use Rattle.std.specs.Thread.{IsSync};
 ghost use Rattle.cvl_text.specs.declared.fault.Fault.{Fault};
 ghost use Rattle.cvl_text.specs.declared.word.Word.{Word};
 ghost use Rattle.cvl_text.specs.Tasks.{task_of};
+ghost use Rattle.cvl_calls.specs.Fewness.{FewFit};
 ghost use Rattle.cvl_calls.specs.Judging.{IsReady, JudgesBy, made, word_of};
 ghost use Rattle.cvl_calls.specs.Outcomes.{Stores};
 ghost use Rattle.cvl_calls.specs.Runs.{tests_index};
 ghost use Rattle.cvl_calls.specs.Steps.{work_on};
 
+use crate::joining::few::{FEW, Few};
 use crate::joining::group::{Group, Item};
 use crate::judged::Judged;
 use crate::made::Stored;
@@ -53,7 +55,7 @@ pub(crate) trait Joins<'a, P: Copy, T: Stored>: Kernel<P, Item = T> {
 
 /// The operands of the call at a place, unless it has a fault or memory is wanted.
 #[inline(always)]
-fn part_at<'a, P: Copy, T: Stored, K: Joins<'a, P, T>, G: Group>(
+pub(crate) fn part_at<'a, P: Copy, T: Stored, K: Joins<'a, P, T>, G: Group>(
     execution: &impl Execution,
     alloc: Global,
     meter: &Meter,
@@ -107,6 +109,35 @@ fn next_part<'a, P: Copy, T: Stored, K: Joins<'a, P, T>, G: Group>(
         return Ok(before[place - 1]);
     }
     part_at(execution, alloc, meter, kernel, group, place)
+}
+
+/// Puts the operands of the calls behind the first, of one to four calls, behind those of the first.
+#[inline(always)]
+pub(crate) fn put_others<'a, P: Copy, T: Stored, K: Joins<'a, P, T>, G: Group>(
+    execution: &impl Execution,
+    alloc: Global,
+    meter: &Meter,
+    kernel: K,
+    group: &'a G,
+    parts: &mut Few<P>,
+) -> Result<(), Stop>
+    requires memory { FewFit P.row }
+    requires alike { G.IsAlike group.now }
+    requires word { G.word group.now ≡ K.word kernel }
+    requires few { length (G.works group.now) ≤ FEW }
+    requires one { length parts.old ≡ 1 }
+    requires taken { All (K.Takes kernel) parts.old }
+    requires made { map (λ part. Ok (Stores (T.content (K.makes kernel part)))) parts.old ≡ take 1 (G.works group.now) }
+    ensures takes { OnOk result (All (K.Takes kernel) parts.new) }
+    ensures makes { OnOk result (map (λ part. Ok (Stores (T.content (K.makes kernel part)))) parts.new ≡ G.works group.now) }
+    ensures fault { (fault : Fault) → result ≡ Err (Stop.Fault fault) → (place : ℕ) × (slice_get (G.works group.now) place ≡ Some (Err fault)) }
+{
+    for place in 1..group.count() {
+        let before = parts.as_slice();
+        let part = next_part(execution, alloc, meter, kernel, group, before, place)?;
+        parts.push(part);
+    }
+    Ok(())
 }
 
 /// The operands of all calls.

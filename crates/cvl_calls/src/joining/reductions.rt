@@ -1,6 +1,6 @@
 //! Reductions of all items, of which each is a reply.
 
-ghost use Rattle.std.specs.Prelude.{◌≡◌, ℕ, Err, Ok, Some, map, slice_get, IfOk};
+ghost use Rattle.std.specs.Prelude.{◌≡◌, ◌≤◌, ℕ, Err, Ok, Some, length, map, slice_get, take, IfOk, OnOk};
 ghost use Rattle.item_operations.specs.BooleanScans.{combine_b, unit_b};
 ghost use Rattle.item_operations.specs.IntegerScans.{combine_z, unit_z};
 ghost use Rattle.cvl_text.specs.declared.fault.Fault.{Fault};
@@ -12,14 +12,16 @@ ghost use Rattle.cvl_text.specs.declared.word.Word.TheVariants as words;
 ghost use Rattle.cvl_calls.specs.Joined.{effects_of};
 ghost use Rattle.cvl_calls.specs.Outcomes.{Answers};
 
+use crate::joining::few::{FEW, Few, are_few};
 use crate::joining::group::{Group, Item};
 use crate::judged::Judged;
 use crate::made::Made;
 use crate::shapes::scans::{reduce_bools, reduce_ints};
+use crate::shelves::Shelves;
 use crate::stop::Stop;
 use cvl_text::{Call, ScanB, ScanZ};
 use scan_kernels::joined::{reduce_whole_b_joined, reduce_whole_z_joined};
-use scan_kernels::{Execution, Meter};
+use scan_kernels::{Execution, Kept, Meter};
 use std::alloc::Global;
 
 /// `OP_ruz`: the integers of each call as one, by one kernel run.
@@ -27,18 +29,28 @@ pub(crate) fn reduced_ints<'a, G: Group>(
     execution: &impl Execution,
     alloc: Global,
     meter: &mut Meter,
+    shelves: &mut Shelves,
     op: ScanZ,
     group: &'a G,
-) -> Result<Made, Stop>
+    made: &mut Made,
+) -> Result<(), Stop>
     requires alike { G.IsAlike group.now }
     requires word { G.word group.now ≡ words.Ask (asks.RedZ op) }
-    ensures makes { IfOk result (λ made. map (λ effect. Ok effect) (effects_of made) ≡ G.works group.now) }
+    ensures makes { OnOk result (map (λ effect. Ok effect) (effects_of made.new) ≡ G.works group.now) }
     ensures fault { (fault : Fault) → result ≡ Err (Stop.Fault fault) → (place : ℕ) × (slice_get (G.works group.now) place ≡ Some (Err fault)) }
     ensures counted { CountsRun result meter.old meter.new }
 {
+    let kept = Kept::new(shelves.take_numbers(alloc));
+    if are_few(group.count()) {
+        let mut parts = Few::of(ints_at(op, group, 0)?);
+        put_ints(op, group, &mut parts)?;
+        let few = parts.as_slice();
+        *made = Made::Numbers(reduce_whole_z_joined(execution, kept, meter, op, few)?);
+        return Ok(());
+    }
     let parts = ints_of(alloc, op, group)?;
-    let items = reduce_whole_z_joined(execution, alloc, meter, op, &parts)?;
-    Ok(Made::Numbers(items))
+    *made = Made::Numbers(reduce_whole_z_joined(execution, kept, meter, op, &parts)?);
+    Ok(())
 }
 
 /// The integers of the call at a place, unless it has a fault.
@@ -58,6 +70,22 @@ fn ints_at<'a, G: Group>(op: ScanZ, group: &'a G, place: usize) -> Result<&'a [i
         Judged::ReduceInts(_, xs) => Ok(xs),
         _ => unreachable!(),
     }
+}
+
+/// Puts the integers of the calls behind the first, of one to four calls, behind those of the first.
+fn put_ints<'a, G: Group>(op: ScanZ, group: &'a G, parts: &mut Few<&'a [i64]>) -> Result<(), Stop>
+    requires alike { G.IsAlike group.now }
+    requires word { G.word group.now ≡ words.Ask (asks.RedZ op) }
+    requires few { length (G.works group.now) ≤ FEW }
+    requires one { length parts.old ≡ 1 }
+    requires made { map (λ p. Ok (Answers (IntOf (reduced (combine_z op) (unit_z op) p.now)))) parts.old ≡ take 1 (G.works group.now) }
+    ensures makes { OnOk result (map (λ p. Ok (Answers (IntOf (reduced (combine_z op) (unit_z op) p.now)))) parts.new ≡ G.works group.now) }
+    ensures fault { (fault : Fault) → result ≡ Err (Stop.Fault fault) → (place : ℕ) × (slice_get (G.works group.now) place ≡ Some (Err fault)) }
+{
+    for place in 1..group.count() {
+        parts.push(ints_at(op, group, place)?);
+    }
+    Ok(())
 }
 
 /// The integers of each call.
@@ -80,18 +108,28 @@ pub(crate) fn reduced_bools<'a, G: Group>(
     execution: &impl Execution,
     alloc: Global,
     meter: &mut Meter,
+    shelves: &mut Shelves,
     op: ScanB,
     group: &'a G,
-) -> Result<Made, Stop>
+    made: &mut Made,
+) -> Result<(), Stop>
     requires alike { G.IsAlike group.now }
     requires word { G.word group.now ≡ words.Ask (asks.RedB op) }
-    ensures makes { IfOk result (λ made. map (λ effect. Ok effect) (effects_of made) ≡ G.works group.now) }
+    ensures makes { OnOk result (map (λ effect. Ok effect) (effects_of made.new) ≡ G.works group.now) }
     ensures fault { (fault : Fault) → result ≡ Err (Stop.Fault fault) → (place : ℕ) × (slice_get (G.works group.now) place ≡ Some (Err fault)) }
     ensures counted { CountsRun result meter.old meter.new }
 {
+    let kept = Kept::new(shelves.take_truths(alloc));
+    if are_few(group.count()) {
+        let mut parts = Few::of(bools_at(op, group, 0)?);
+        put_bools(op, group, &mut parts)?;
+        let few = parts.as_slice();
+        *made = Made::Truths(reduce_whole_b_joined(execution, kept, meter, op, few)?);
+        return Ok(());
+    }
     let parts = bools_of(alloc, op, group)?;
-    let items = reduce_whole_b_joined(execution, alloc, meter, op, &parts)?;
-    Ok(Made::Truths(items))
+    *made = Made::Truths(reduce_whole_b_joined(execution, kept, meter, op, &parts)?);
+    Ok(())
 }
 
 /// The truth values of the call at a place, unless it has a fault.
@@ -111,6 +149,22 @@ fn bools_at<'a, G: Group>(op: ScanB, group: &'a G, place: usize) -> Result<&'a [
         Judged::ReduceBools(_, xs) => Ok(xs),
         _ => unreachable!(),
     }
+}
+
+/// Puts the truth values of the calls behind the first, of one to four calls, behind those of the first.
+fn put_bools<'a, G: Group>(op: ScanB, group: &'a G, parts: &mut Few<&'a [bool]>) -> Result<(), Stop>
+    requires alike { G.IsAlike group.now }
+    requires word { G.word group.now ≡ words.Ask (asks.RedB op) }
+    requires few { length (G.works group.now) ≤ FEW }
+    requires one { length parts.old ≡ 1 }
+    requires made { map (λ p. Ok (Answers (BoolOf (reduced (combine_b op) (unit_b op) p.now)))) parts.old ≡ take 1 (G.works group.now) }
+    ensures makes { OnOk result (map (λ p. Ok (Answers (BoolOf (reduced (combine_b op) (unit_b op) p.now)))) parts.new ≡ G.works group.now) }
+    ensures fault { (fault : Fault) → result ≡ Err (Stop.Fault fault) → (place : ℕ) × (slice_get (G.works group.now) place ≡ Some (Err fault)) }
+{
+    for place in 1..group.count() {
+        parts.push(bools_at(op, group, place)?);
+    }
+    Ok(())
 }
 
 /// The truth values of each call.

@@ -16,14 +16,16 @@ use crate::reduce::reduce_segment;
 use crate::reduced_parts::ReducedParts;
 use crate::reduction_sizes::parts_size;
 use crate::rows::{BoolRow, IntRow};
+use crate::source::Source;
 use item_operations::{Combine, ScanB, ScanZ};
 use segment_desc::OutOfMemory;
-use std::alloc::{AllocError, Global};
+use std::alloc::AllocError;
 
-/// What the operation makes of each part of integers, which is one segment: one run, which gives an item for each part.
+/// What the operation makes of each part of integers, which is one segment: one run, which gives an item for each
+/// part. The result may lie in a vector that was kept.
 pub fn reduce_whole_z_joined(
     execution: &impl Execution,
-    alloc: Global,
+    source: impl Source<i64>,
     meter: &mut Meter,
     op: ScanZ,
     parts: &[&[i64]],
@@ -33,7 +35,7 @@ pub fn reduce_whole_z_joined(
     ensures exact { IfOk result (λ made. IsExact made) }
     ensures counted { CountsRun result meter.old meter.new }
 {
-    let made = reduced_parts_z(execution, alloc, meter, op, parts)?;
+    let made = reduced_parts_z(execution, source, meter, op, parts)?;
     meter.raise();
     Ok(made)
 }
@@ -41,7 +43,7 @@ pub fn reduce_whole_z_joined(
 /// The reductions of the parts of integers, by chunks of parts where that pays.
 fn reduced_parts_z(
     execution: &impl Execution,
-    alloc: Global,
+    source: impl Source<i64>,
     meter: &Meter,
     op: ScanZ,
     parts: &[&[i64]],
@@ -52,23 +54,28 @@ fn reduced_parts_z(
     match parts_size(execution, meter, parts.len(), total_items(parts)) {
         Some(size) => {
             let row = IntRow::ReducedParts(ReducedParts { op, parts });
-            ints_by_chunks(execution, alloc, row, size)
+            ints_by_chunks(execution, source, row, size)
         }
-        None => chosen_parts_z(alloc, op, parts),
+        None => chosen_parts_z(source, op, parts),
     }
 }
 
-fn chosen_parts_z(alloc: Global, op: ScanZ, parts: &[&[i64]]) -> Result<Vec<i64>, AllocError>
+fn chosen_parts_z(
+    source: impl Source<i64>,
+    op: ScanZ,
+    parts: &[&[i64]],
+) -> Result<Vec<i64>, AllocError>
     ensures parts { IfOk result (λ made. made.items ≡ map (λ p. reduced (combine_z op) (unit_z op) p.now) parts.now) }
     ensures exact { IfOk result (λ made. IsExact made) }
 {
-    by_scan_z!(op, reduce_parts(alloc, op, parts))
+    by_scan_z!(op, reduce_parts(source, op, parts))
 }
 
-/// What the operation makes of each part of truth values, which is one segment: one run, which gives an item for each part.
+/// What the operation makes of each part of truth values, which is one segment: one run, which gives an item for each
+/// part. The result may lie in a vector that was kept.
 pub fn reduce_whole_b_joined(
     execution: &impl Execution,
-    alloc: Global,
+    source: impl Source<bool>,
     meter: &mut Meter,
     op: ScanB,
     parts: &[&[bool]],
@@ -78,7 +85,7 @@ pub fn reduce_whole_b_joined(
     ensures exact { IfOk result (λ made. IsExact made) }
     ensures counted { CountsRun result meter.old meter.new }
 {
-    let made = reduced_parts_b(execution, alloc, meter, op, parts)?;
+    let made = reduced_parts_b(execution, source, meter, op, parts)?;
     meter.raise();
     Ok(made)
 }
@@ -86,7 +93,7 @@ pub fn reduce_whole_b_joined(
 /// The reductions of the parts of truth values, by chunks of parts where that pays.
 fn reduced_parts_b(
     execution: &impl Execution,
-    alloc: Global,
+    source: impl Source<bool>,
     meter: &Meter,
     op: ScanB,
     parts: &[&[bool]],
@@ -97,17 +104,21 @@ fn reduced_parts_b(
     match parts_size(execution, meter, parts.len(), total_items(parts)) {
         Some(size) => {
             let row = BoolRow::ReducedParts(ReducedParts { op, parts });
-            bools_by_chunks(execution, alloc, row, size)
+            bools_by_chunks(execution, source, row, size)
         }
-        None => chosen_parts_b(alloc, op, parts),
+        None => chosen_parts_b(source, op, parts),
     }
 }
 
-fn chosen_parts_b(alloc: Global, op: ScanB, parts: &[&[bool]]) -> Result<Vec<bool>, AllocError>
+fn chosen_parts_b(
+    source: impl Source<bool>,
+    op: ScanB,
+    parts: &[&[bool]],
+) -> Result<Vec<bool>, AllocError>
     ensures parts { IfOk result (λ made. made.items ≡ map (λ p. reduced (combine_b op) (unit_b op) p.now) parts.now) }
     ensures exact { IfOk result (λ made. IsExact made) }
 {
-    by_scan_b!(op, reduce_parts(alloc, op, parts))
+    by_scan_b!(op, reduce_parts(source, op, parts))
 }
 
 /// How many items the parts have, or as many as can be told.
@@ -121,14 +132,14 @@ fn total_items<T>(parts: &[&[T]]) -> usize {
 
 #[inline(always)]
 fn reduce_parts<O: Combine>(
-    alloc: Global,
+    source: impl Source<O::Item>,
     op: O,
     parts: &[&[O::Item]],
 ) -> Result<Vec<O::Item>, AllocError>
     ensures parts { IfOk result (λ made. made.items ≡ map (λ p. reduced (O.combined op) (O.unit_of op) p.now) parts.now) }
     ensures exact { IfOk result (λ made. IsExact made) }
 {
-    let mut made = Vec::with_capacity(alloc, parts.len())?;
+    let mut made = source.vector(parts.len())?;
     for part in parts {
         made.push_reserved(reduce_segment(op, part));
     }

@@ -1,13 +1,12 @@
-use Rattle.std.proofs.Common.{arith, ◌≡◌, ◌∙◌, ◌+◌, ◌-◌, ◌≤◌, ◌<◌, ap, inl, inr, length, List, ℕ, refl, rules, subst, sym, vec_len}
+use Rattle.std.proofs.Common.{arith, ◌≡◌, ◌∙◌, ◌≤◌, ◌<◌, ◌^◌, ap, length, List, rules, subst, vec_len}
 use Rattle.std.specs.List.{range_with_len}
 use Rattle.vector_memory.specs.declared.bounds.Bounds.{Bounds}
 use Rattle.call_history.specs.declared.entry.Entry.{Entry}
 use Rattle.batch_flatten.specs.Alike.{AreOfWord}
 use Rattle.batch_flatten.specs.Counts.{RisesBy, wave_count}
 use Rattle.batch_flatten.specs.Serving.{Serving}
-use Rattle.batch_flatten.proofs.AlikeLemmas.{alike-sure, calls-asked, one-wave-count, risen-by, some-bound, wave-apart-all}
+use Rattle.batch_flatten.proofs.AlikeLemmas.{alike-sure, calls-asked, as-risen, one-wave-count, some-bound, wave-apart-all}
 use Rattle.batch_flatten.proofs.AlikeTurns.{one-wave-served}
-use Rattle.batch_flatten.proofs.BatchLemmas.{batch_back}
 use Rattle.batch_flatten.proofs.CountLemmas.{rises-one}
 use Rattle.batch_flatten.proofs.alike.serve_alike.Goals as goal
 
@@ -18,20 +17,6 @@ serve_made-requires-clause-apart g c =
 pub serve_singly-requires-clause-single : goal.serve_singly-requires-clause-single
 serve_singly-requires-clause-single g c κs within =
     calls-asked c.args.requests.now.items c.in_ok-word.word (subst (AreOfWord c.in_ok-word.word) c.deref.ensures.value c.in_ok-word.ensures.alike) c.in_ok-word.ensures.kernel
-
-pub returns-in_default-clause-served : goal.returns-in_default-clause-served
-returns-in_default-clause-served g c =
-    let rs = c.args.requests.now.items in
-    let back = c.hand_back.ensures.outcomes in
-    record {
-      serves = batch_back c.args.book.now.bounds c.args.book.now.history c.reserve.new.self.history rs c.hand_back.new.outcomes.items c.len-entries.ensures.whole c.in_default.ensures.history back;
-      bounds = c.in_default.ensures.bounds;
-      waves = inr (refl, c.in_default.ensures.history, back);
-      sure = λ up. absurd (omega arith);
-      bound = omega arith;
-      few_singles = omega arith;
-      kernels = let m = c.args.meter.now in let none : m.runs ≡ m.runs + 0 = omega arith in ap (λ (n : ℕ). record m { runs = n }) none;
-    }
 
 pub returns-in-Ok-make_on-clause-served : goal.returns-in-Ok-make_on-clause-served
 returns-in-Ok-make_on-clause-served g c =
@@ -45,23 +30,19 @@ returns-in-Ok-make_on-clause-served g c =
     let rooms = ap (λ b. b.bounds) c.make_on.ensures.book ∙ c.in-Ok.ensures.bounds in
     let lines = ap (λ b. b.history) c.make_on.ensures.book ∙ c.in-Ok.ensures.history in
     let rose = rises-one c.args.meter.now c.make_on.new.meter c.in-Ok-make_on.ensures.counted in
-    let first = c.runs-before.ensures in
-    let low = c.runs-before.type_inv in
-    let last = c.runs.ensures in
+    let up = rose.rises (subst (λ n. n < 2 ^ 64) c.runs-runs.ensures c.runs-runs.type_inv) in
     let within = rose.within in
-    let kernels = c.one_wave.ensures.kernels in
-    let singles = c.one_wave.ensures.singles in
     let least = some-bound rs word some few alike kernel in
-    let grown : c.make_on.new.meter.runs - c.args.meter.now.runs ≡ c.one_wave.result.kernels = omega arith in
     record {
       serves = one-wave-served c.args.book.now.bounds c.args.book.now.history c.serve_made.new.book.history rs os some few
           (subst (λ (z : Bounds × (List Entry)). Serving z.0 z.1 rs (range_with_len 0 (length rs)) c.serve_made.new.book.history os) (λ i. (rooms i, lines i)) c.serve_made.ensures.serves);
       bounds = c.serve_made.ensures.bounds ∙ rooms;
-      waves = inl (c.one_wave.ensures.waves ∙ sym (one-wave-count rs some few));
-      sure = λ up. alike-sure rs os word alike kernel;
+      one_wave = one-wave-count rs some few;
+      sure = alike-sure rs os word alike kernel;
+      rises = up.0;
       bound = omega arith;
       few_singles = omega arith;
-      kernels = risen-by 1 c.args.meter.now c.make_on.new.meter rose (omega arith) ∙ ap (λ (n : ℕ). record c.args.meter.now { runs = c.args.meter.now.runs + n }) grown;
+      kernels = as-risen c.args.meter.now c.make_on.new.meter rose.chunk;
     }
 
 pub returns-in-Err-OutOfMemory-clause-served : goal.returns-in-Err-OutOfMemory-clause-served
@@ -77,22 +58,18 @@ returns-in-Err-OutOfMemory-clause-served g c =
     let lines = ap (λ b. b.history) c.make_on.ensures.book ∙ c.in-Ok.ensures.history in
     let stays = c.in-Err-OutOfMemory.ensures.stays in
     let rose = subst (λ m. RisesBy (length rs) m c.serve_singly.new.meter) stays c.serve_singly.ensures.counted in
-    let first = c.runs-before.ensures in
-    let low = c.runs-before.type_inv in
-    let last = c.runs-in-Err-OutOfMemory.ensures in
+    let up = rose.rises (subst (λ n. n < 2 ^ 64) c.runs-runs.ensures c.runs-runs.type_inv) in
     let within = rose.within in
-    let kernels = c.one_wave-in-Err-OutOfMemory.ensures.kernels in
-    let singles = c.one_wave-in-Err-OutOfMemory.ensures.singles in
     let count : vec_len c.args.requests.now ≡ length rs = search rules in
     let counted = c.len-count.ensures in
-    let grown : c.serve_singly.new.meter.runs - c.args.meter.now.runs ≡ c.one_wave-in-Err-OutOfMemory.result.kernels = omega arith in
     record {
       serves = one-wave-served c.args.book.now.bounds c.args.book.now.history c.serve_singly.new.book.history rs os some few
           (subst (λ (z : Bounds × (List Entry)). Serving z.0 z.1 rs (range_with_len 0 (length rs)) c.serve_singly.new.book.history os) (λ i. (rooms i, lines i)) c.serve_singly.ensures.serves);
       bounds = c.serve_singly.ensures.bounds ∙ rooms;
-      waves = inl (c.one_wave-in-Err-OutOfMemory.ensures.waves ∙ sym (one-wave-count rs some few));
-      sure = λ up. alike-sure rs os word alike kernel;
+      one_wave = one-wave-count rs some few;
+      sure = alike-sure rs os word alike kernel;
+      rises = up.0;
       bound = omega arith;
       few_singles = omega arith;
-      kernels = risen-by (length rs) c.args.meter.now c.serve_singly.new.meter rose (omega arith) ∙ ap (λ (n : ℕ). record c.args.meter.now { runs = c.args.meter.now.runs + n }) grown;
+      kernels = as-risen c.args.meter.now c.serve_singly.new.meter rose.chunk;
     }

@@ -5,4 +5,4 @@ use Rattle.cvl_calls.proofs.Joined.{same-made}
 use Rattle.cvl_calls.proofs.joining.run_joined_with.Goals as goal
 
 pub returns-in-Ok-clause-makes : goal.returns-in-Ok-clause-makes
-returns-in-Ok-clause-makes g c = c.products_of.ensures ∙ same-made made (effects_of c.in-Ok.made) c.args.group.now c.in-Ok.ensures.makes
+returns-in-Ok-clause-makes g c = c.products_of.ensures ∙ same-made made (effects_of c.run_group.new.made) c.args.group.now c.in-Ok.ensures.makes

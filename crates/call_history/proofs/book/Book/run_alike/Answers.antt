@@ -1,10 +1,10 @@
-use Rattle.std.proofs.Common.{rules, ◌≡◌, None, List, map, subst, sym, ap, ◌∙◌}
+use Rattle.std.proofs.Common.{rules, ◌≡◌, List, map, subst, sym, ap, ◌∙◌}
 use Rattle.std.proofs.lemmas.List.{length-map}
 use Rattle.std.proofs.lemmas.Simd.{map-map}
 use Rattle.std.specs.Borrow.{Bor}
 use Rattle.vector_memory.specs.States.{State, bounds_of}
 use Rattle.cvl_text.specs.declared.call.Call.{Call}
-use Rattle.cvl_text.specs.Tasks.{Task, task_of}
+use Rattle.cvl_text.specs.Tasks.{task_of}
 use Rattle.cvl_calls.specs.Alike.{after_all}
 use Rattle.call_history.specs.declared.entry.Entry.{Entry}
 use Rattle.call_history.specs.Alike.{entered}

@@ -1,4 +1,4 @@
-use Rattle.std.proofs.Common.{arith, ◌≡◌, ◌<◌, Bor, Bool, List, Ok, Result, ap, length, map, ◌∙◌}
+use Rattle.std.proofs.Common.{arith, ◌<◌, Bor, Bool, List, Ok, Result, ap, length, map, ◌∙◌}
 use Rattle.item_operations.specs.BooleanScans.{combine_b, unit_b}
 use Rattle.scan_kernels.specs.Segmented.{reduced}
 use Rattle.cvl_text.specs.declared.fault.Fault.{Fault}

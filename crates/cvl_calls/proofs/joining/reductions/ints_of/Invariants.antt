@@ -1,4 +1,4 @@
-use Rattle.std.proofs.Common.{◌≡◌, Ok, length, map, take, vec_len, vec_capacity}
+use Rattle.std.proofs.Common.{◌≡◌, Ok, map, take, vec_len, vec_capacity}
 use Rattle.item_operations.specs.IntegerScans.{combine_z, unit_z}
 use Rattle.scan_kernels.specs.Segmented.{reduced}
 use Rattle.cvl_text.specs.Answers.{IntOf}

@@ -1,4 +1,4 @@
-use Rattle.std.proofs.Common.{rules, ◌≡◌, ◌≤◌, ◌+◌, ◌∙◌, ◌++◌, ◌∷◌, [], Global, List, Vec, ℤ, ap, length, subst, sym, map}
+use Rattle.std.proofs.Common.{rules, ◌≡◌, ◌≤◌, ◌+◌, ◌∙◌, ◌∷◌, Global, List, Vec, ℤ, ap, length, subst, sym}
 use Rattle.std.proofs.lemmas.List.{same_from_push}
 use Rattle.vector_memory.specs.Contents.{Ints}
 use Rattle.vector_memory.specs.States.{cells_of, put}

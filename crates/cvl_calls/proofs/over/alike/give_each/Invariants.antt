@@ -1,5 +1,5 @@
-use Rattle.std.proofs.Common.{◌≡◌, ◌+◌, None, drop, length, map}
-use Rattle.std.specs.Vec.Iter.{into_iter_items, into_iter_len}
+use Rattle.std.proofs.Common.{◌≡◌, None, drop, map}
+use Rattle.std.specs.Vec.Iter.{into_iter_items}
 use Rattle.cvl_calls.specs.Alike.{HasRoomFor, filled}
 use Rattle.cvl_calls.proofs.over.alike.give_each.Given as goal
 

@@ -1,4 +1,4 @@
-use Rattle.std.proofs.Common.{rules, ◌≡◌, ◌∙◌, ◌++◌, Global, List, Vec, ℤ, ap, length, map, subst, sym}
+use Rattle.std.proofs.Common.{rules, ◌≡◌, ◌∙◌, ◌++◌, Global, List, Vec, ℤ, ap, map, subst, sym}
 use Rattle.std.specs.Borrow.{Bor}
 use Rattle.vector_memory.specs.States.{State}
 use Rattle.cvl_text.specs.declared.call.Call.{Call}

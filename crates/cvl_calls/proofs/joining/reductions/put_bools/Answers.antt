@@ -1,0 +1,25 @@
+use Rattle.std.proofs.Common.{arith, ◌<◌, ◌+◌, Bor, Bool, List, Ok, Result, ap, length, map, ◌∙◌}
+use Rattle.std.proofs.lemmas.List.{length_push}
+use Rattle.item_operations.specs.BooleanScans.{combine_b, unit_b}
+use Rattle.scan_kernels.specs.Segmented.{reduced}
+use Rattle.cvl_text.specs.declared.fault.Fault.{Fault}
+use Rattle.cvl_text.specs.Answers.{BoolOf}
+use Rattle.cvl_calls.specs.Outcomes.{Answers, Effect}
+use Rattle.cvl_calls.proofs.Joined.{made-more}
+use Rattle.cvl_calls.proofs.joining.reductions.put_bools.Goals as goal
+
+pub loop-place-preserved : goal.loop-place-preserved
+loop-place-preserved g c =
+    let works = g.G.Group.works c.args.group.now in
+    let f : Bor (List Bool) → Result Effect Fault = λ p. Ok (Answers (BoolOf (reduced (combine_b c.args.op) (unit_b c.args.op) p.now))) in
+    let parts = c.loop-place.parts in
+    let p = c.in_ok-bools_at.field-0 in
+    let inv = c.loop-place.invariant in
+    let low = c.loop-place-test.true in
+    let end = c.count-place-end.ensures in
+    let items = c.push.ensures in
+    let lt : c.loop-place.place < length works = omega arith in
+    record {
+      makes = ap (map f) items ∙ made-more f parts p works c.loop-place.place inv.makes c.in_ok-bools_at.ensures.makes lt;
+      long = ap length items ∙ length_push parts p ∙ ap (λ n. n + 1) inv.long;
+    }
