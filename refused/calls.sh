@@ -4,7 +4,7 @@
 # It runs the tests of the files refused.rt of these crates that `rt test` or `./test` built, once for each growth. A test fails where
 # a refused growth is anything but a want of memory that changed nothing, and in batches where it comes to more than one call, but for
 # a history that could not be reserved. The batch and the pass with an empty vector must also be served once with a joined run refused
-# and every call answered. Status 1: something was not so; 2: the tests are not built; 3: nothing was tried, since there is no cc.
+# and every call answered, and batches of few alike calls behind others of their kind must ask for no growth. Status 1: something was not so; 2: the tests are not built; 3: nothing was tried, since there is no cc.
 cd "$(dirname "$0")/.." || exit 1
 crates='kernel_tests call_tests batch_tests machine_tests'
 for crate in $crates; do
@@ -49,6 +49,8 @@ for crate in $crates; do
         refuse_each "$crate" "$test"
         case $test in *::joins_with_an_empty_vector)
             grep -q '^ *1 waves, 2 kernels, \(2 singles, \)\{0,1\}0 back$' "$made/ways" || { echo "refused: no group ran call by call"; status=1; } ;;
+        *_take_nothing_more)
+            [ "$growth" -eq 1 ] || { echo "refused: a batch of few alike calls that had its like asked for memory"; status=1; } ;;
         esac
     done
 done

@@ -11,9 +11,31 @@ ghost use Rattle.batch_flatten.specs.Alike.{AreOfWord, RunTogether, ServesAlike,
 use crate::alike::{are_one_wave, common_word};
 use crate::plan::BATCH_LIMIT;
 use call_history::{Book, Job, Outcome, Request};
-use cvl_text::{Call, Reply, Word};
+use cvl_text::{Call, Reply, Word, target};
 use scan_kernels::{Execution, Meter};
 use std::alloc::Global;
+use vector_memory::Value;
+
+/// From how many integers on it repays to write a result over what lies at its target: for shorter ones the lists that this takes cost
+/// more than the memory that it saves.
+const WORTH: usize = 2_048;
+
+/// Whether so many integers lie at the target of the first request.
+pub(crate) fn is_worth(book: &Book, requests: &[Request]) -> bool {
+    let Some(first) = requests.first() else {
+        return false;
+    };
+    let Job::One(call) = &first.job else {
+        return false;
+    };
+    let Some(to) = target(call) else {
+        return false;
+    };
+    match book.memory().get(&to) {
+        Some(Value::Ints(items)) => items.len() >= WORTH,
+        _ => false,
+    }
+}
 
 /// The callers of the requests, if there is memory for their list.
 fn callers_of(alloc: Global, requests: &[Request]) -> Option<Vec<u64>>

@@ -15,7 +15,7 @@ ghost use Rattle.batch_flatten.specs.Serving.{AnswersSure, AreApart, AreAskedBy,
 
 use crate::alike::serve_alike;
 use crate::alone::serve_alone;
-use crate::over::serve_over;
+use crate::over::{is_worth, serve_over};
 use crate::plan::BATCH_LIMIT;
 use crate::ran::Ran;
 use crate::roll::{Roll, open};
@@ -167,8 +167,9 @@ pub fn run_batch(
         return serve_alone(execution, alloc, book, requests, outcomes, meter);
     }
     let before = meter.runs();
-    // Where the last joined run made long results, the next are long as well, as a rule.
-    if book.keeps_long_ints() && serve_over(execution, alloc, book, requests, outcomes, meter) {
+    // Where long results were replaced, or many, the next are so as well, as a rule.
+    let is_worth_over = book.keeps_long_ints() && is_worth(book, requests);
+    if is_worth_over && serve_over(execution, alloc, book, requests, outcomes, meter) {
         return one_wave(meter.runs() - before, 0);
     }
     match serve_alike(execution, alloc, book, requests, outcomes, meter) {

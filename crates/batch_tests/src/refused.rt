@@ -11,7 +11,7 @@ ghost use Rattle.batch_flatten.specs.Serving.{caller_of};
 
 use crate::asking::{batch_of, book_of};
 use batch_flatten::{BATCH_LIMIT, Ran, run_batch};
-use call_history::{Outcome, Request};
+use call_history::{Book, Outcome, Request};
 use scan_kernels::{Meter, Sequential};
 use std::alloc::Global;
 use std::process::Abort;
@@ -98,4 +98,58 @@ fn divides_by_zero_in_a_group(rt: HostRuntime) {
 #[test]
 fn three_callers_on_one_name(rt: HostRuntime) {
     serves_the_others(&rt, "a = z 1", "b = z 1\nc = cpy_wuz b\nb = z 2")
+}
+
+/// Serves the calls of these lines as one batch on a book.
+fn serve(rt: &impl Abort, alloc: Global, book: &mut Book, calls: &str) {
+    let (mut requests, mut outcomes) = asked(rt, alloc, calls);
+    run_batch(
+        &Sequential,
+        alloc,
+        book,
+        &mut requests,
+        &mut outcomes,
+        &mut Meter::new(),
+    );
+}
+
+/// Serves the calls of these lines as one batch again and again on a book, and prints around the last. By then all that few alike calls
+/// take lies ready: they make no list, and no vector.
+fn serves_again<R: Abort + Alloc<A = Global> + Print>(rt: &R, before: &str, calls: &str) {
+    let mut book = book_of(rt, rt.alloc(), 1000, before);
+    for _ in 0..3 {
+        serve(rt, rt.alloc(), &mut book, calls);
+    }
+    let (mut requests, mut outcomes) = asked(rt, rt.alloc(), calls);
+    let begun = println!(rt; "begin");
+    let ran = run_batch(
+        &Sequential,
+        rt.alloc(),
+        &mut book,
+        &mut requests,
+        &mut outcomes,
+        &mut Meter::new(),
+    );
+    let ended = println!(rt; "end");
+    assert!(rt; begun.is_ok() && ended.is_ok());
+    assert!(rt; ran.waves == 1 && ran.kernels == 1 && ran.singles == 0);
+    assert!(rt; count_back(&outcomes) == 0);
+}
+
+#[test]
+fn two_sums_take_nothing_more(rt: HostRuntime) {
+    serves_again(
+        &rt,
+        "a = z 1 2 3\nb = z 10 20 30",
+        "c = add_wuz a b\nd = add_wuz a b",
+    )
+}
+
+#[test]
+fn four_replies_take_nothing_more(rt: HostRuntime) {
+    serves_again(
+        &rt,
+        "a = z 1 2 3\nb = z 10 20 30",
+        "add_ruz a\nadd_ruz b\nadd_ruz a\nadd_ruz b",
+    )
 }

@@ -500,7 +500,7 @@ impl Book {
         &self.memory
     }
 
-    /// Whether long vectors are kept for the results of joined runs, as they are where the last joined run made such.
+    /// Whether long vectors are kept for the results of joined runs, or many integers, as they are where joined runs made such.
     #[inline(always)]
     pub fn keeps_long_ints(&self) -> bool {
         self.spare.shelves().have_long_ints()
