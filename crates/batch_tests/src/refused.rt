@@ -113,13 +113,14 @@ fn serve(rt: &impl Abort, alloc: Global, book: &mut Book, calls: &str) {
     );
 }
 
-/// Serves the calls of these lines as one batch again and again on a book, and prints around the last. By then all that few alike calls
-/// take lies ready: they make no list, and no vector.
+/// Serves the calls of these lines as one batch again and again on a book, and prints around the last. By then the history has
+/// space and all that few alike calls take lies ready: they make no list, and no vector.
 fn serves_again<R: Abort + Alloc<A = Global> + Print>(rt: &R, before: &str, calls: &str) {
     let mut book = book_of(rt, rt.alloc(), 1000, before);
     for _ in 0..3 {
         serve(rt, rt.alloc(), &mut book, calls);
     }
+    assert!(rt; book.reserve(BATCH_LIMIT).is_ok());
     let (mut requests, mut outcomes) = asked(rt, rt.alloc(), calls);
     let begun = println!(rt; "begin");
     let ran = run_batch(
