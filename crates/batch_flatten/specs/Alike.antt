@@ -1,5 +1,5 @@
 -- A batch of alike calls in one wave: each request is for a single call of one word, and none reads the target of an earlier one.
-use Rattle.std.specs.Prelude.{◌≡◌, ◌≤◌, ◌+◌, ℕ, zero, suc, All, false, List, [], ◌∷◌, length, map, Result, Ok, Some}
+use Rattle.std.specs.Prelude.{◌≡◌, ◌≤◌, ◌+◌, ℕ, zero, suc, All, false, List, [], ◌∷◌, length, map, Option, None, Some, Result, Ok}
 use Rattle.std.specs.List.{AllByRecursion}
 use Rattle.scan_kernels.specs.Metering.{Metered}
 use Rattle.vector_memory.specs.States.{State}
@@ -59,6 +59,11 @@ pub record ServesAlike (old new : BookState) (requests : List Request) (outcomes
   pub bound : after.runs ≤ before.runs + kernel_bound requests + singles
   pub few_singles : singles ≤ length requests
   pub kernels : after ≡ record before { runs = after.runs }
+
+-- the outcome of a call that stands at this place, and whose value was stored, or refused by a fault
+abbrev pub answered_at : ℕ → Option Fault → Outcome
+answered_at place None = Answered place replies.Done
+answered_at place (Some fault) = Answered place (replies.Fault fault)
 
 -- so many outcomes of calls that are done, at places one behind another
 abbrev pub done_from : ℕ → ℕ → List Outcome

@@ -28,6 +28,7 @@ use scan_kernels::{Execution, Meter};
 use std::alloc::Global;
 
 /// Whether all requests are for single calls of this word, or for blocks where the word is theirs.
+#[inline(always)]
 fn have_word(requests: &[Request], word: Word) -> bool
     ensures { IsTrue result → AreOfWord word requests.now }
 {
@@ -40,6 +41,7 @@ fn have_word(requests: &[Request], word: Word) -> bool
 }
 
 /// The word of all requests, if they are for single calls of one word, which runs a kernel.
+#[inline(always)]
 pub(crate) fn common_word(requests: &[Request]) -> Option<Word>
     ensures kernel { IfSome result (λ word. IsTrue (runs_kernel word)) }
     ensures alike { IfSome result (λ word. AreOfWord word requests.now) }
@@ -82,6 +84,9 @@ pub(crate) fn are_one_wave(requests: &[Request]) -> bool
     requires { length requests.now ≤ BATCH_LIMIT }
     ensures { IsTrue result → wave_count requests.now ≤ 1 }
 {
+    if let [first, second] = requests {
+        return !clashes(&first.job, &second.job);
+    }
     if requests.len() <= FEW {
         return are_apart(requests);
     }

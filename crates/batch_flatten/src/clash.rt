@@ -26,6 +26,7 @@ fn calls_of(job: &Job) -> &[Call]
 }
 
 /// Whether the call reads the name.
+#[inline(always)]
 fn reads_name(call: &Call, to: Name) -> bool
     ensures { result ≡ is_among (Some to) (reads (task_of call.now)) }
 {
@@ -39,6 +40,7 @@ fn reads_name(call: &Call, to: Name) -> bool
 }
 
 /// Whether the later call reads the target of the earlier one.
+#[inline(always)]
 fn calls_clash(earlier: &Call, later: &Call) -> bool
     ensures { result ≡ clashes (task_of earlier.now) (task_of later.now) }
 {
@@ -66,6 +68,7 @@ fn any_clash(earlier: &[Call], later: &[Call]) -> bool
 }
 
 /// Whether some later call reads the target of some earlier one.
+#[inline(never)]
 fn lists_clash(earlier: &[Call], later: &[Call]) -> bool
     ensures { result ≡ jobs_clash (map task_of earlier.now) (map task_of later.now) }
 {
@@ -77,6 +80,7 @@ fn lists_clash(earlier: &[Call], later: &[Call]) -> bool
 }
 
 /// Whether some call of the later job reads the target of some call of the earlier one.
+#[inline(always)]
 pub fn clashes(earlier: &Job, later: &Job) -> bool
     ensures { result ≡ jobs_clash (tasks_of earlier.now) (tasks_of later.now) }
 {

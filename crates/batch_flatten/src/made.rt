@@ -1,6 +1,7 @@
 //! What alike calls make, by one kernel run over their joined operands, before any of them takes its turn.
 
-ghost use Rattle.std.specs.Prelude.{◌≡◌, map, IfOk, IfSome, IsTrue, OnErr, OnOk};
+ghost use Rattle.std.specs.Prelude.{◌≡◌, ◌≢◌, [], map, IfOk, IfSome, IsTrue, OnErr, OnOk};
+ghost use Rattle.cvl_text.specs.Tasks.{reads, task_of};
 ghost use Rattle.scan_kernels.specs.Metering.{raised};
 ghost use Rattle.cvl_calls.specs.Joined.{effects_of};
 ghost use Rattle.cvl_calls.specs.Runs.{runs_kernel};
@@ -35,6 +36,17 @@ fn call_of(request: &Request) -> Option<&Call>
     }
 }
 
+/// `read_the_same`, where the names of the most common calls, those item by item on two vectors, are compared at once.
+#[inline(always)]
+fn read_alike(one: &Call, other: &Call) -> bool
+    ensures { IsTrue result → (reads (task_of one.now) ≢ []) × (reads (task_of one.now) ≡ reads (task_of other.now)) }
+{
+    match (one, other) {
+        (Call::MapZ2 { a, b, .. }, Call::MapZ2 { a: x, b: y, .. }) => *a == *x && *b == *y,
+        _ => read_the_same(one, other),
+    }
+}
+
 /// Whether two requests, for calls of one word that runs a kernel, read the same names, at least one. Such a call takes nothing else,
 /// so the same comes of both.
 #[inline(always)]
@@ -44,7 +56,7 @@ fn make_the_same(earlier: &Request, later: &Request) -> bool
     ensures { IsTrue result → (memory : State) → work_asked memory later.now ≡ work_asked memory earlier.now }
 {
     match (call_of(earlier), call_of(later)) {
-        (Some(before), Some(behind)) => read_the_same(before, behind),
+        (Some(before), Some(behind)) => read_alike(before, behind),
         _ => false,
     }
 }
@@ -82,7 +94,7 @@ impl Group for Asked<'_> {
 
 /// Makes what the calls of all requests, which have this word, make of the memory: by one kernel run over their joined operands. Where
 /// one has a fault or memory is wanted, nothing is made and the meter stays.
-#[inline(never)]
+#[inline(always)]
 pub(crate) fn make_all(
     execution: &impl Execution,
     alloc: Global,

@@ -4,8 +4,8 @@
 ghost use Rattle.std.specs.Prelude.{◌≡◌, ◌≢◌, ◌+◌, ◌<◌, ◌≤◌, ◌∷◌, ◌++◌, [], Ok, length, map, vec_len, vec_capacity};
 ghost use Rattle.std.specs.List.{AllByRecursion, AllPairs, range_with_len};
 ghost use Rattle.cvl_text.specs.Tasks.{task_of};
-ghost use Rattle.vector_memory.specs.Contents.{Bools, Ints};
-ghost use Rattle.cvl_text.specs.Answers.{BoolOf, IntOf};
+ghost use Rattle.vector_memory.specs.Contents.{Bools, Ints, content_of};
+ghost use Rattle.cvl_text.specs.Answers.{BoolOf, IntOf, answer_of};
 ghost use Rattle.cvl_calls.specs.Joined.{effects_of};
 ghost use Rattle.cvl_calls.specs.Outcomes.{Answers, Effect, Stores};
 ghost use Rattle.cvl_calls.specs.Steps.{work_on};
@@ -14,64 +14,28 @@ ghost use Rattle.call_history.specs.declared.request.Outcome.{Outcome};
 ghost use Rattle.call_history.specs.Books.{memory_of};
 ghost use Rattle.call_history.specs.Callers.{caller_limit};
 ghost use Rattle.call_history.specs.Works.{IsWork};
-ghost use Rattle.batch_flatten.specs.Alike.{AllApart, AreMadeOf, work_asked};
+ghost use Rattle.batch_flatten.specs.Alike.{AllApart, AreMadeOf, answered_at, work_asked};
 ghost use Rattle.batch_flatten.specs.Batches.{RunsJob};
 ghost use Rattle.batch_flatten.specs.Serving.{Serving};
 
 use crate::roll::handed_back;
 use call_history::{Book, Job, Outcome, Request, Unserved, Work};
 use cvl_calls::Made;
-use cvl_text::{Call, Reply};
+use cvl_text::{Call, Fault, Reply};
 use std::alloc::Global;
 use std::mem;
 use vector_memory::Value;
 
-/// What a call made, for its turn.
-pub(crate) trait Turned: Drop {
-    /// What it is.
-    ghost effect: { Self → Effect };
-
-    /// Takes it, as work.
-    fn work(&mut self) -> Work
-        ensures work { IsWork result (Ok (effect self.old)) };
-}
-
-impl Turned for Vec<i64> {
-    ghost effect = { λ v. Stores (Ints v.items) };
-
-    #[inline(always)]
-    fn work(&mut self) -> Work {
-        let alloc = *self.allocator();
-        Work::Store(Value::Ints(mem::replace(self, Vec::new(alloc))))
-    }
-}
-
-impl Turned for Vec<bool> {
-    ghost effect = { λ v. Stores (Bools v.items) };
-
-    #[inline(always)]
-    fn work(&mut self) -> Work {
-        let alloc = *self.allocator();
-        Work::Store(Value::Bools(mem::replace(self, Vec::new(alloc))))
-    }
-}
-
-impl Turned for i64 {
-    ghost effect = { λ x. Answers (IntOf x) };
-
-    #[inline(always)]
-    fn work(&mut self) -> Work {
-        Work::Say(Reply::Int(*self))
-    }
-}
-
-impl Turned for bool {
-    ghost effect = { λ x. Answers (BoolOf x) };
-
-    #[inline(always)]
-    fn work(&mut self) -> Work {
-        Work::Say(Reply::Bool(*self))
-    }
+/// What became of a call that stands in the history at this place, and whose value was stored, or refused by a fault.
+#[inline(always)]
+fn answered(place: u64, fault: Option<Fault>) -> Outcome
+    ensures { result ≡ answered_at place fault }
+{
+    let reply = match fault {
+        None => Reply::Done,
+        Some(fault) => Reply::Fault(fault),
+    };
+    Outcome::Answered { place, reply }
 }
 
 /// Takes the job out of a request, which is of no use any more.
@@ -125,17 +89,17 @@ fn serve_unserved(
     }
 }
 
-/// The turn of a request whose product was made before. What became of it goes behind the outcomes.
+/// The turn of a request whose reply was made before. What became of it goes behind the outcomes.
 #[inline(always)]
-fn serve_one(
+fn serve_reply(
     alloc: Global,
     book: &mut Book,
     request: &mut Request,
-    work: Work,
+    reply: Reply,
     outcomes: &mut Vec<Outcome>,
 )
     requires caller { request.old.caller < caller_limit }
-    requires made { (effect : Effect) × (work_asked (memory_of book.old) request.old ≡ Ok effect) × IsWork work (Ok effect) }
+    requires made { work_asked (memory_of book.old) request.old ≡ Ok (Answers (answer_of reply)) }
     requires space { 0 < book.old.spaces }
     requires room { vec_len outcomes.old < vec_capacity outcomes.old }
     ensures ran { (outcome : Outcome) × (outcomes.new.items ≡ outcomes.old.items ++ outcome ∷ []) × RunsJob book.old book.new request.old.caller request.old.job outcome }
@@ -146,9 +110,125 @@ fn serve_one(
     let Job::One(call) = &request.job else {
         unreachable!()
     };
-    match book.run_lent(caller, call, work) {
+    match book.run_lent(caller, call, Work::Say(reply)) {
         Ok((place, reply)) => outcomes.push_reserved(Outcome::Answered { place, reply }),
         Err(unserved) => serve_unserved(alloc, book, request, unserved, outcomes),
+    }
+}
+
+/// The turn of a request whose value was made before. What became of it goes behind the outcomes.
+#[inline(always)]
+fn serve_value(
+    alloc: Global,
+    book: &mut Book,
+    request: &mut Request,
+    value: Value,
+    outcomes: &mut Vec<Outcome>,
+)
+    requires caller { request.old.caller < caller_limit }
+    requires made { work_asked (memory_of book.old) request.old ≡ Ok (Stores (content_of value)) }
+    requires space { 0 < book.old.spaces }
+    requires room { vec_len outcomes.old < vec_capacity outcomes.old }
+    ensures ran { (outcome : Outcome) × (outcomes.new.items ≡ outcomes.old.items ++ outcome ∷ []) × RunsJob book.old book.new request.old.caller request.old.job outcome }
+    ensures one_space { book.old.spaces ≤ book.new.spaces + 1 }
+    ensures spaces { vec_capacity outcomes.new ≡ vec_capacity outcomes.old }
+{
+    let caller = request.caller;
+    let Job::One(call) = &request.job else {
+        unreachable!()
+    };
+    let unserved = match book.store_lent(caller, call, value) {
+        Ok((place, fault)) => {
+            outcomes.push_reserved(answered(place, fault));
+            return;
+        }
+        Err(Unserved::OutOfMemory) => Unserved::OutOfMemory,
+        Err(Unserved::Whole(value)) => Unserved::Whole(Work::Store(value)),
+    };
+    serve_unserved(alloc, book, request, unserved, outcomes);
+}
+
+/// What a call made, for its turn.
+pub(crate) trait Turned: Drop {
+    /// What it is.
+    ghost effect: { Self → Effect };
+
+    /// The turn of a request for it. What became of it goes behind the outcomes.
+    fn serve(
+        &mut self,
+        alloc: Global,
+        book: &mut Book,
+        request: &mut Request,
+        outcomes: &mut Vec<Outcome>,
+    )
+        requires caller { request.old.caller < caller_limit }
+        requires made { work_asked (memory_of book.old) request.old ≡ Ok (effect self.old) }
+        requires space { 0 < book.old.spaces }
+        requires room { vec_len outcomes.old < vec_capacity outcomes.old }
+        ensures ran { (outcome : Outcome) × (outcomes.new.items ≡ outcomes.old.items ++ outcome ∷ []) × RunsJob book.old book.new request.old.caller request.old.job outcome }
+        ensures one_space { book.old.spaces ≤ book.new.spaces + 1 }
+        ensures spaces { vec_capacity outcomes.new ≡ vec_capacity outcomes.old };
+}
+
+impl Turned for Vec<i64> {
+    ghost effect = { λ v. Stores (Ints v.items) };
+
+    #[inline(always)]
+    fn serve(
+        &mut self,
+        alloc: Global,
+        book: &mut Book,
+        request: &mut Request,
+        outcomes: &mut Vec<Outcome>,
+    ) {
+        let items = mem::replace(self, Vec::new(alloc));
+        serve_value(alloc, book, request, Value::Ints(items), outcomes);
+    }
+}
+
+impl Turned for Vec<bool> {
+    ghost effect = { λ v. Stores (Bools v.items) };
+
+    #[inline(always)]
+    fn serve(
+        &mut self,
+        alloc: Global,
+        book: &mut Book,
+        request: &mut Request,
+        outcomes: &mut Vec<Outcome>,
+    ) {
+        let items = mem::replace(self, Vec::new(alloc));
+        serve_value(alloc, book, request, Value::Bools(items), outcomes);
+    }
+}
+
+impl Turned for i64 {
+    ghost effect = { λ x. Answers (IntOf x) };
+
+    #[inline(always)]
+    fn serve(
+        &mut self,
+        alloc: Global,
+        book: &mut Book,
+        request: &mut Request,
+        outcomes: &mut Vec<Outcome>,
+    ) {
+        serve_reply(alloc, book, request, Reply::Int(*self), outcomes);
+    }
+}
+
+impl Turned for bool {
+    ghost effect = { λ x. Answers (BoolOf x) };
+
+    #[inline(always)]
+    fn serve(
+        &mut self,
+        alloc: Global,
+        book: &mut Book,
+        request: &mut Request,
+        outcomes: &mut Vec<Outcome>,
+    ) {
+        serve_reply(alloc, book, request, Reply::Bool(*self), outcomes);
     }
 }
 
@@ -175,8 +255,7 @@ fn serve_each<T: Turned>(
     // In a book no block is cut.
     let _entries = book.len();
     for place in 0..requests.len() {
-        let work = made[place].work();
-        serve_one(alloc, book, &mut requests[place], work, outcomes);
+        made[place].serve(alloc, book, &mut requests[place], outcomes);
     }
 }
 

@@ -137,6 +137,7 @@ fn one_wave(kernels: u64, singles: u64) -> Ran
 /// Serves the requests of a batch in the order of their waves. What became of them stands in their own order. A block takes its turn
 /// as one: its calls stand next to one another in the history, or all of them come back. Where the history cannot be reserved, each
 /// job comes back and nothing changes.
+#[inline(always)]
 pub fn run_batch(
     execution: &impl Execution,
     alloc: Global,

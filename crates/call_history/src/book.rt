@@ -1,12 +1,14 @@
-ghost use Rattle.std.specs.Prelude.{◌≡◌, ◌==◌, ◌+◌, ◌<◌, ◌≤◌, ◌∷◌, ◌++◌, [], length, map, slice_get, false, Err, Some, All, IfOk, IfErr, OnOk, OnErr, IsOk, IsTrue};
+ghost use Rattle.std.specs.Prelude.{◌≡◌, ◌==◌, ◌+◌, ◌<◌, ◌≤◌, ◌∷◌, ◌++◌, [], length, map, slice_get, false, Err, Ok, Some, All, IfOk, IfErr, OnOk, OnErr, IsOk, IsTrue};
 ghost use Rattle.std.specs.List.{AllByRecursion};
 ghost use Rattle.scan_kernels.specs.Metering.{raised};
 ghost use Rattle.vector_memory.specs.States.{IsLawfulRoom, MayChange, bounds_in};
+ghost use Rattle.vector_memory.specs.Contents.{content_of};
 ghost use Rattle.vector_memory.specs.Editions.{item_limit};
 ghost use Rattle.cvl_text.specs.Tasks.{task_of};
 ghost use Rattle.cvl_text.specs.Answers.{answer_of};
 ghost use Rattle.cvl_calls.specs.Alike.{AreDone};
-ghost use Rattle.cvl_calls.specs.Steps.{CountsStep, MayLackMemory, runs_on, stepped, work_on};
+ghost use Rattle.cvl_calls.specs.Outcomes.{Stores};
+ghost use Rattle.cvl_calls.specs.Steps.{CountsStep, MayLackMemory, answer_to_store, runs_on, stepped, work_on};
 ghost use Rattle.cvl_calls.specs.Runs.{TakesNoMemory};
 ghost use Rattle.call_history.specs.History.{replies_from, reply_after};
 ghost use Rattle.call_history.specs.Books.{memory_of};
@@ -24,13 +26,15 @@ use crate::entry::EntryRef;
 use crate::kept::{Kept, brief};
 use crate::log::Log;
 use crate::work::{Unserved, Work};
-use cvl_calls::{Made, Product, Shelves, Spare, apply_joined, step_alike, step_with, target};
-use cvl_text::{Call, Reply, Word};
+use cvl_calls::{
+    Made, Product, Shelves, Spare, apply_joined, step_alike, step_with, store_joined, target,
+};
+use cvl_text::{Call, Fault, Reply, Word};
 use scan_kernels::{Execution, Meter};
 use std::alloc::Global;
 use std::marker::Model;
 use vector_memory::laws::memories_are_lawful;
-use vector_memory::{Bounds, Edition, Memory, OutOfMemory};
+use vector_memory::{Bounds, Edition, Memory, OutOfMemory, Value};
 
 /// The greatest number of callers.
 pub const CALLER_LIMIT: usize = 64;
@@ -137,6 +141,25 @@ fn done(
         Work::Say(reply) => Ok(reply),
         Work::Store(value) => apply_joined(spare, memory, target(call), Product::Store(value)),
     }
+}
+
+/// Stores a value that a call made of the memory in a joined run: the fault by which the store is refused, if it is.
+#[inline(always)]
+fn stored(
+    spare: &mut Spare,
+    memory: &mut Memory,
+    call: &Call,
+    value: Value,
+) -> Result<Option<Fault>, OutOfMemory>
+    requires work { work_on memory.old (task_of call.now) ≡ Ok (Stores (content_of value)) }
+    requires may_change { MayChange memory.old }
+    ensures ok { IfOk result (λ fault. stepped memory.old (task_of call.now)
+        ≡ record { memory = memory.new; answer = answer_to_store fault }) }
+    ensures grows { OnErr result (MayWantMemory memory.old (task_of call.now)) }
+    ensures err { OnErr result (memory.new ≡ memory.old) }
+{
+    memories_are_lawful(memory);
+    store_joined(spare, memory, target(call), value)
 }
 
 impl Book {
@@ -364,6 +387,45 @@ impl Book {
         };
         let place = enter_brief(&mut self.log, &mut self.tickets, caller, kept);
         Ok((place, reply))
+    }
+
+    /// `run_lent` of a call whose work is a value to be stored. In place of a reply it answers the fault by which the store is refused,
+    /// if it is: so little is answered that a short call pays nothing for moving it.
+    #[inline(always)]
+    pub fn store_lent(
+        &mut self,
+        caller: u64,
+        call: &Call,
+        value: Value,
+    ) -> Result<(u64, Option<Fault>), Unserved<Value>>
+        requires caller { caller < CALLER_LIMIT }
+        requires space { 0 < self.old.spaces }
+        requires work { work_on (memory_of self.old) (task_of call.now) ≡ Ok (Stores (content_of value)) }
+        ensures history { OnOk result (self.new.history
+            ≡ self.old.history ++ next_entry self.old.history caller call.now ∷ []) }
+        ensures place { IfOk result (λ answer. answer.0 ≡ length self.old.history) }
+        ensures reply { IfOk result (λ answer. answer_to_store answer.1 ≡ reply_after self.old.bounds self.old.history call.now) }
+        ensures memory { OnOk result (memory_of self.new ≡ (stepped (memory_of self.old) (task_of call.now)).memory) }
+        ensures one_space { OnOk result (self.old.spaces ≤ self.new.spaces + 1) }
+
+        ensures back { IfErr result (HandsBack value) }
+        ensures brief { result ≡ Err Unserved.OutOfMemory → MayBeBrief call.now }
+        ensures unchanged { OnErr result (self.new.history ≡ self.old.history) }
+        ensures spaces_kept { OnErr result (self.old.spaces ≤ self.new.spaces) }
+
+        ensures bounds { self.new.bounds ≡ self.old.bounds }
+
+        // Memory is wanted only where the value has room.
+        ensures lacks { result ≡ Err Unserved.OutOfMemory → MayWantMemory (memory_of self.old) (task_of call.now) }
+    {
+        let Some(kept) = brief(call) else {
+            return Err(Unserved::Whole(value));
+        };
+        let Ok(fault) = stored(&mut self.spare, &mut self.memory, call, value) else {
+            return Err(Unserved::OutOfMemory);
+        };
+        let entry = enter_brief(&mut self.log, &mut self.tickets, caller, kept);
+        Ok((entry, fault))
     }
 
     /// Runs calls of one word that are lent, in space that is left, each of the caller at its place, all by one kernel run: they write

@@ -3,8 +3,8 @@ ghost use Rattle.vector_memory.specs.Contents.{content_of};
 ghost use Rattle.vector_memory.specs.States.{FitsLimits, MayChange, refusal};
 ghost use Rattle.cvl_text.specs.Answers.{answer_of};
 ghost use Rattle.cvl_text.specs.Tasks.{task_of};
-ghost use Rattle.cvl_calls.specs.Outcomes.{Counts, GivesBy, IsDecided, IsFittingEffect, effect_of, operands_of};
-ghost use Rattle.cvl_calls.specs.Steps.{CountsStep, Grows, MayLackMemory, applied, runs_on, stepped, stored};
+ghost use Rattle.cvl_calls.specs.Outcomes.{Counts, GivesBy, IsDecided, IsFittingEffect, Stores, effect_of, operands_of};
+ghost use Rattle.cvl_calls.specs.Steps.{CountsStep, Grows, MayLackMemory, answer_to_store, applied, runs_on, stepped, stored};
 ghost use Rattle.cvl_calls.specs.Work.{work};
 ghost use Rattle.cvl_calls.specs.Runs.{TakesNoMemory, runs_kernel, tests_index};
 
@@ -173,6 +173,37 @@ pub fn apply_joined(
         spare.keep_for_joined(value);
     }
     Ok(reply)
+}
+
+/// `apply_joined` of a value. Answers the fault by which the store is refused, if it is.
+#[inline(always)]
+pub fn store_joined(
+    spare: &mut Spare,
+    memory: &mut Memory,
+    to: Option<Name>,
+    value: Value,
+) -> Result<Option<Fault>, OutOfMemory>
+    requires fits { FitsLimits memory.old.limit (content_of value) }
+    requires may_change { MayChange memory.old }
+    ensures ok { IfOk result (λ fault. applied memory.old to (Stores (content_of value))
+        ≡ record { memory = memory.new; answer = answer_to_store fault }) }
+    ensures grows { OnErr result (Grows memory.old to (Stores (content_of value))) }
+    ensures err { OnErr result (memory.new ≡ memory.old) }
+{
+    let Some(to) = to else {
+        return Ok(None);
+    };
+    match memory.replace(to, value) {
+        Ok(before) => {
+            if let Some(replaced) = before {
+                spare.keep_for_joined(replaced);
+            }
+            Ok(None)
+        }
+        Err(StoreFault::NoRoom) => Ok(Some(Fault::NoRoom)),
+        Err(StoreFault::TooManyNames) => Ok(Some(Fault::TooManyNames)),
+        Err(StoreFault::OutOfMemory) => Err(OutOfMemory),
+    }
 }
 
 /// Runs a call on a memory: `work`, and then `apply`. A fault is a reply, and it and a want of memory leave the memory as it was.

@@ -253,6 +253,7 @@ impl Kinds {
     }
 
     /// Takes the shelf of integers out, and leaves none.
+    #[inline(always)]
     fn take_ints(&mut self, alloc: Global) -> Result<Box<Shelf<i64>>, AllocError>
         ensures { IfOk result (λ shelf. self.old ≡ self.new + 8 * shelf.value) }
     {
@@ -263,6 +264,7 @@ impl Kinds {
     }
 
     /// Takes the shelf of truth values out, and leaves none.
+    #[inline(always)]
     fn take_bools(&mut self, alloc: Global) -> Result<Box<Shelf<bool>>, AllocError>
         ensures { IfOk result (λ shelf. self.old ≡ self.new + shelf.value) }
     {
@@ -286,6 +288,7 @@ impl Kinds {
     }
 
     /// Puts a shelf of integers in the place of the one that is there, unless it has too much.
+    #[inline(always)]
     fn put_ints(&mut self, shelf: Box<Shelf<i64>>) {
         if shelf.space() <= SHELVED_INTS {
             self.ints = Some(shelf);
@@ -293,6 +296,7 @@ impl Kinds {
     }
 
     /// Puts a shelf of truth values in the place of the one that is there, unless it has too much.
+    #[inline(always)]
     fn put_bools(&mut self, shelf: Box<Shelf<bool>>) {
         if shelf.space() <= SHELVED_BOOLS {
             self.bools = Some(shelf);

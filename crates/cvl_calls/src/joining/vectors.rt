@@ -18,6 +18,7 @@ use scan_kernels::{BoolKernel, Execution, IntKernel, Meter, run_joined_bools, ru
 use std::alloc::Global;
 
 /// What a kernel makes of these operands, each by itself, by one run. The results take vectors that were kept.
+#[inline(always)]
 fn int_vectors<'a, P, K: IntKernel<'a, P>>(
     execution: &impl Execution,
     alloc: Global,
@@ -68,6 +69,7 @@ pub(crate) fn ints<'a, P: Copy, K: Joins<'a, P, i64> + IntKernel<'a, P>, G: Grou
 }
 
 /// What a kernel makes of these operands, each by itself, by one run. The results take vectors that were kept.
+#[inline(always)]
 fn bool_vectors<'a, P, K: BoolKernel<'a, P>>(
     execution: &impl Execution,
     alloc: Global,

@@ -46,17 +46,17 @@ loop-place-preserved g c =
     let effects = map g.T.Turned.effect (drop (place + 1) made) in
     let u = subst (λ ts. UnderWay bounds line rs now (map g.T.Turned.effect ts) book os) next inv.under_way in
     let f = first-made (memory_of book) (g.T.Turned.effect one) effects u.turns.rest u.made in
-    let changed = c.serve_one.new.request in
+    let changed = c.serve.new.request in
     let is = c.index_mut-in-loop-place.ensures.value ∙ stands-now bounds line rs now book os u.turns f.request f.others place c.index_mut-in-loop-place.result.now f.are (sym inv.here) in
-    let ran = c.serve_one.ensures.ran in
-    let runs = subst (λ (r : Request). RunsJob book c.serve_one.new.book r.caller r.job ran.0) is ran.2 in
-    let later = under-way-next bounds line rs now (set now place changed) (g.T.Turned.effect one) effects book c.serve_one.new.book os c.serve_one.new.outcomes.items ran.0 changed c.requires.distinct
-    u f runs c.serve_one.ensures.one_space (ap (λ n. set now n changed) (sym inv.here)) ran.1 in
+    let ran = c.serve.ensures.ran in
+    let runs = subst (λ (r : Request). RunsJob book c.serve.new.book r.caller r.job ran.0) {y = f.request} is ran.2 in
+    let later = under-way-next bounds line rs now (set now place changed) (g.T.Turned.effect one) effects book c.serve.new.book os c.serve.new.outcomes.items ran.0 changed c.requires.distinct
+    u f runs c.serve.ensures.one_space (ap (λ n. set now n changed) (sym inv.here)) ran.1 in
     record {
-      under_way = subst (λ ts. UnderWay bounds line rs (set now place changed) (map g.T.Turned.effect ts) c.serve_one.new.book c.serve_one.new.outcomes.items) (sym (drop-set-lt (place + 1) made place c.work-work.new.self (omega arith))) later;
+      under_way = subst (λ ts. UnderWay bounds line rs (set now place changed) (map g.T.Turned.effect ts) c.serve.new.book c.serve.new.outcomes.items) (sym (drop-set-lt (place + 1) made place c.serve.new.self (omega arith))) later;
       here = ap length ran.1 ∙ length_push os ran.0 ∙ ap (λ n. n + 1) inv.here;
       requests_long = length-set now place changed ∙ inv.requests_long;
-      made_long = length-set made place c.work-work.new.self ∙ inv.made_long;
+      made_long = length-set made place c.serve.new.self ∙ inv.made_long;
       request_spaces = inv.request_spaces;
-      outcome_spaces = c.serve_one.ensures.spaces ∙ inv.outcome_spaces;
+      outcome_spaces = c.serve.ensures.spaces ∙ inv.outcome_spaces;
     }

@@ -1,5 +1,5 @@
 use Rattle.batch_flatten.proofs.AlikeTurns.{runs-on}
-use Rattle.batch_flatten.proofs.made_turns.serve_one.Goals as goal
+use Rattle.batch_flatten.proofs.made_turns.serve_reply.Goals as goal
 
 pub returns-in-Err-clause-ran : goal.returns-in-Err-clause-ran
 returns-in-Err-clause-ran c =
