@@ -1,5 +1,5 @@
 -- A batch of one request: its wave is the first, and the turn of its job is all that is done.
-use Rattle.std.proofs.Common.{◌≡◌, ℕ, zero, suc, List, [], ◌∷◌, Some, slice_get, refl, sym, subst, arith}
+use Rattle.std.proofs.Common.{◌≡◌, ◌<◌, length, ℕ, zero, suc, List, [], ◌∷◌, Some, slice_get, refl, sym, subst, arith}
 use Rattle.vector_memory.specs.declared.bounds.Bounds.{Bounds}
 use Rattle.call_history.specs.declared.entry.Entry.{Entry}
 use Rattle.call_history.specs.declared.request.Job.{Job}
@@ -12,6 +12,12 @@ use Rattle.call_history.specs.Fits.{request, returned, IsAskedAt, handed_back}
 use Rattle.batch_flatten.specs.Batches.{RunsJob, ServesInOrder}
 use Rattle.batch_flatten.specs.Serving.{AreAskedBy, RunsBack, Serving}
 use Rattle.batch_flatten.proofs.ServingLemmas.{serving_end, serving_start, serving_turn}
+
+-- the first of fewer than two is the only one
+pub only-one : (rs : List Request) (r : Request) → Some r ≡ slice_get rs 0 → length rs < 2 → rs ≡ r ∷ []
+only-one [] r there few = absurd cc
+only-one (q ∷ []) r there few = cc
+only-one (q ∷ p ∷ rs) r there few = absurd (omega arith)
 
 asked-once : (r : Request) → AreAskedBy (r ∷ []) (r.caller ∷ [])
 asked-once r = record { callers_are = refl; each = each }

@@ -10,7 +10,7 @@ ghost use Rattle.call_history.specs.Books.{memory_of};
 ghost use Rattle.call_history.specs.Callers.{caller_limit};
 ghost use Rattle.cvl_calls.specs.Joined.{effects_of};
 ghost use Rattle.batch_flatten.specs.Alike.{AllApart, AreMadeOf, AreOfWord, ServesAlike};
-ghost use Rattle.batch_flatten.specs.Counts.{wave_count};
+ghost use Rattle.batch_flatten.specs.Counts.{wave_count, word_of_job};
 ghost use Rattle.batch_flatten.specs.Waves.{asked, jobs_clash};
 
 use crate::clash::clashes;
@@ -21,11 +21,22 @@ use crate::plan::BATCH_LIMIT;
 use crate::planning::waves;
 use crate::roll::{job_word, wave_count};
 use crate::singly::serve_singly;
-use call_history::{Book, Outcome, Request};
+use call_history::{Book, Job, Outcome, Request};
 use cvl_calls::{Made, Stop, runs_kernel};
-use cvl_text::Word;
+use cvl_text::{Call, TwoWord, Word};
 use scan_kernels::{Execution, Meter};
 use std::alloc::Global;
+
+/// Whether a job has this word. Of the most common calls, those item by item on two vectors, the word is known but for its operation.
+#[inline(always)]
+fn has_word(job: &Job, word: Word) -> bool
+    ensures { IsTrue result → word_of_job job.now ≡ word }
+{
+    match job {
+        Job::One(Call::MapZ2 { op, .. }) => is_same_word(Word::Two(TwoWord::MapZ2(*op)), word),
+        _ => is_same_word(job_word(job), word),
+    }
+}
 
 /// Whether all requests are for single calls of this word, or for blocks where the word is theirs.
 #[inline(always)]
@@ -33,7 +44,7 @@ fn have_word(requests: &[Request], word: Word) -> bool
     ensures { IsTrue result → AreOfWord word requests.now }
 {
     for request in requests {
-        if !is_same_word(job_word(&request.job), word) {
+        if !has_word(&request.job, word) {
             return false;
         }
     }

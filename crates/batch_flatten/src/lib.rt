@@ -9,6 +9,7 @@ mod alike;
 mod alone;
 mod block_plan;
 mod clash;
+mod emptying;
 mod joining;
 pub mod laws;
 mod made;

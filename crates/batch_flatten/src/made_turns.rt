@@ -18,6 +18,7 @@ ghost use Rattle.batch_flatten.specs.Alike.{AllApart, AreMadeOf, answered_at, wo
 ghost use Rattle.batch_flatten.specs.Batches.{RunsJob};
 ghost use Rattle.batch_flatten.specs.Serving.{Serving};
 
+use crate::emptying::empty;
 use crate::roll::handed_back;
 use call_history::{Book, Job, Outcome, Request, Unserved, Work};
 use cvl_calls::Made;
@@ -28,7 +29,7 @@ use vector_memory::Value;
 
 /// What became of a call that stands in the history at this place, and whose value was stored, or refused by a fault.
 #[inline(always)]
-fn answered(place: u64, fault: Option<Fault>) -> Outcome
+pub(crate) fn answered(place: u64, fault: Option<Fault>) -> Outcome
     ensures { result ≡ answered_at place fault }
 {
     let reply = match fault {
@@ -89,6 +90,29 @@ fn serve_unserved(
     }
 }
 
+/// The same of a call whose value was made before.
+#[inline(never)]
+fn serve_unserved_value(
+    alloc: Global,
+    book: &mut Book,
+    request: &mut Request,
+    unserved: Unserved<Value>,
+    outcomes: &mut Vec<Outcome>,
+)
+    requires caller { request.old.caller < caller_limit }
+    requires made { (value : Value) (call : Call) → unserved ≡ Unserved.Whole value → request.old.job ≡ Job.One call → work_on (memory_of book.old) (task_of call) ≡ Ok (Stores (content_of value)) }
+    requires room { vec_len outcomes.old < vec_capacity outcomes.old }
+    ensures ran { (outcome : Outcome) × (outcomes.new.items ≡ outcomes.old.items ++ outcome ∷ []) × RunsJob book.old book.new request.old.caller request.old.job outcome }
+    ensures one_space { book.old.spaces ≤ book.new.spaces + 1 }
+    ensures spaces { vec_capacity outcomes.new ≡ vec_capacity outcomes.old }
+{
+    let work = match unserved {
+        Unserved::OutOfMemory => Unserved::OutOfMemory,
+        Unserved::Whole(value) => Unserved::Whole(Work::Store(value)),
+    };
+    serve_unserved(alloc, book, request, work, outcomes);
+}
+
 /// The turn of a request whose reply was made before. What became of it goes behind the outcomes.
 #[inline(always)]
 fn serve_reply(
@@ -137,15 +161,10 @@ fn serve_value(
     let Job::One(call) = &request.job else {
         unreachable!()
     };
-    let unserved = match book.store_lent(caller, call, value) {
-        Ok((place, fault)) => {
-            outcomes.push_reserved(answered(place, fault));
-            return;
-        }
-        Err(Unserved::OutOfMemory) => Unserved::OutOfMemory,
-        Err(Unserved::Whole(value)) => Unserved::Whole(Work::Store(value)),
-    };
-    serve_unserved(alloc, book, request, unserved, outcomes);
+    match book.store_lent(caller, call, value) {
+        Ok((place, fault)) => outcomes.push_reserved(answered(place, fault)),
+        Err(unserved) => serve_unserved_value(alloc, book, request, unserved, outcomes),
+    }
 }
 
 /// What a call made, for its turn.
@@ -287,5 +306,5 @@ pub(crate) fn serve_made(
         Made::Truths(items) => serve_each(alloc, book, requests, items, outcomes),
     }
     book.keep_list(alloc, made);
-    requests.clear();
+    empty(requests);
 }

@@ -114,6 +114,7 @@ pub(crate) fn handed_back(job: Job) -> Outcome
 }
 
 /// Hands each job back: it moves into its outcome, in the order of the requests.
+#[inline(never)]
 pub(crate) fn hand_back(requests: &mut Vec<Request>, outcomes: &mut Vec<Outcome>)
     requires empty { outcomes.old.items ≡ [] }
     requires spaces { vec_len requests.old ≤ vec_capacity outcomes.old }

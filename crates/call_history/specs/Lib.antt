@@ -8,6 +8,7 @@ pub mod Insides
 pub mod Shown
 pub mod Works
 pub mod Kept
+pub mod Owning
 pub mod Logs
 pub mod Refs
 pub mod Alike

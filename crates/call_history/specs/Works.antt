@@ -38,3 +38,8 @@ GrowsBy m to (Err fault) = ⊥
 -- memory.
 abbrev pub MayWantMemory : State → Task → Type 0
 MayWantMemory m t = GrowsBy m (target t) (work_on m t)
+
+-- what was handed in with a call comes back since a history keeps the call whole
+abbrev pub IsWhole : {W : Type 0} → Unserved W → Type 0
+IsWhole OutOfMemory = ⊥
+IsWhole (Whole back) = Unit {0}

@@ -9,25 +9,26 @@ ghost use Rattle.cvl_text.specs.Answers.{answer_of};
 ghost use Rattle.cvl_calls.specs.Alike.{AreDone};
 ghost use Rattle.cvl_calls.specs.Outcomes.{Stores};
 ghost use Rattle.cvl_calls.specs.Steps.{CountsStep, MayLackMemory, answer_to_store, runs_on, stepped, work_on};
-ghost use Rattle.cvl_calls.specs.Runs.{TakesNoMemory};
+ghost use Rattle.cvl_calls.specs.Runs.{TakesNoMemory, has_own_step};
 ghost use Rattle.call_history.specs.History.{replies_from, reply_after};
 ghost use Rattle.call_history.specs.Books.{memory_of};
 ghost use Rattle.call_history.specs.Blocks.{RisesBy, Whole, block_entries, block_limit, metered};
 ghost use Rattle.call_history.specs.Alike.{entered};
 ghost use Rattle.call_history.specs.Callers.{AreTickets, IsTicketed, HasLawfulCallers, caller_limit, next_before, next_entry};
 ghost use Rattle.call_history.specs.Refs.{entry_of};
-ghost use Rattle.call_history.specs.Kept.{MayBeBrief, call_of, is_whole};
-ghost use Rattle.call_history.specs.Works.{HandsBack, IsWork, MayWantMemory};
+ghost use Rattle.call_history.specs.Kept.{FitsFew, MayBeBrief, call_of, is_whole};
+ghost use Rattle.call_history.specs.Works.{HandsBack, IsWhole, IsWork, MayWantMemory};
 
 use crate::alike::{briefs, enter_briefs};
 use crate::audit::{holds_the_same, replayed};
 use crate::block::{enter_each, run_each};
 use crate::entry::EntryRef;
-use crate::kept::{Kept, brief};
+use crate::kept::{Kept, brief, own_brief};
 use crate::log::Log;
 use crate::work::{Unserved, Work};
 use cvl_calls::{
-    Made, Product, Shelves, Spare, apply_joined, step_alike, step_with, store_joined, target,
+    Made, Product, Shelves, Spare, apply_joined, step_alike, step_own, step_with, store_joined,
+    target,
 };
 use cvl_text::{Call, Fault, Reply, Word};
 use scan_kernels::{Execution, Meter};
@@ -301,7 +302,8 @@ impl Book {
     }
 
     /// `run_metered` of a call that is lent, in space that is left: it is entered as a history keeps it in few bytes. A call that a
-    /// history keeps whole is not run, and for want of memory it stands in no history.
+    /// history keeps whole is not run, and for want of memory it stands in no history. Kept whole are calls with more than three names and
+    /// numbers, a name of more than twelve bytes, or items of their own.
     #[inline(always)]
     pub fn run_metered_lent(
         &mut self,
@@ -326,6 +328,7 @@ impl Book {
         ensures bounds { self.new.bounds ≡ self.old.bounds }
         ensures counted { CountsStep (runs_on (memory_of self.old) (task_of call.now)) result meter.old meter.new }
         ensures whole { result ≡ Err (Unserved.Whole tt) → meter.new ≡ meter.old }
+        ensures long { IfErr result (λ why. IsWhole why → FitsFew (task_of call.now) → ⊥) }
 
         // Memory is wanted only where it is for a step.
         ensures lacks { result ≡ Err Unserved.OutOfMemory → MayLackMemory (memory_of self.old) (task_of call.now) }
@@ -350,6 +353,57 @@ impl Book {
         ))
     }
 
+    /// `run_metered_lent` of a call that has a step of its own, `has_own_step`. In place of a reply it answers the fault, if there is
+    /// one: so little is answered that a short call pays nothing for moving it.
+    #[inline(always)]
+    pub fn run_own_lent(
+        &mut self,
+        execution: &impl Execution,
+        alloc: Global,
+        meter: &mut Meter,
+        caller: u64,
+        call: &Call,
+    ) -> Result<(u64, Option<Fault>), Unserved<()>>
+        requires caller { caller < CALLER_LIMIT }
+        requires own { IsTrue (has_own_step (task_of call.now).word) }
+        requires space { 0 < self.old.spaces }
+        ensures history { OnOk result (self.new.history
+            ≡ self.old.history ++ next_entry self.old.history caller call.now ∷ []) }
+        ensures place { IfOk result (λ answer. answer.0 ≡ length self.old.history) }
+        ensures reply { IfOk result (λ answer. answer_to_store answer.1 ≡ reply_after self.old.bounds self.old.history call.now) }
+        ensures memory { OnOk result (memory_of self.new ≡ (stepped (memory_of self.old) (task_of call.now)).memory) }
+        ensures one_space { OnOk result (self.old.spaces ≤ self.new.spaces + 1) }
+
+        ensures unchanged { OnErr result (self.new.history ≡ self.old.history) }
+        ensures spaces_kept { OnErr result (self.old.spaces ≤ self.new.spaces) }
+
+        ensures bounds { self.new.bounds ≡ self.old.bounds }
+        ensures counted { CountsStep (runs_on (memory_of self.old) (task_of call.now)) result meter.old meter.new }
+        ensures whole { result ≡ Err (Unserved.Whole tt) → meter.new ≡ meter.old }
+        ensures long { IfErr result (λ why. IsWhole why → FitsFew (task_of call.now) → ⊥) }
+
+        // Memory is wanted only where it is for a step.
+        ensures lacks { result ≡ Err Unserved.OutOfMemory → MayLackMemory (memory_of self.old) (task_of call.now) }
+    {
+        let Some(kept) = own_brief(call) else {
+            return Err(Unserved::Whole(()));
+        };
+        let Ok(fault) = step_own(
+            execution,
+            alloc,
+            meter,
+            &mut self.spare,
+            &mut self.memory,
+            call,
+        ) else {
+            return Err(Unserved::OutOfMemory);
+        };
+        Ok((
+            enter_brief(&mut self.log, &mut self.tickets, caller, kept),
+            fault,
+        ))
+    }
+
     /// `run_with` of a call that is lent, in space that is left: it is entered as a history keeps it in few bytes. The work of a call
     /// that a history keeps whole comes back, and for want of memory it is gone; then the call stands in no history.
     #[inline(always)]
@@ -371,6 +425,7 @@ impl Book {
 
         ensures back { IfErr result (HandsBack work) }
         ensures brief { result ≡ Err Unserved.OutOfMemory → MayBeBrief call.now }
+        ensures long { IfErr result (λ why. IsWhole why → FitsFew (task_of call.now) → ⊥) }
         ensures unchanged { OnErr result (self.new.history ≡ self.old.history) }
         ensures spaces_kept { OnErr result (self.old.spaces ≤ self.new.spaces) }
 
@@ -410,6 +465,7 @@ impl Book {
 
         ensures back { IfErr result (HandsBack value) }
         ensures brief { result ≡ Err Unserved.OutOfMemory → MayBeBrief call.now }
+        ensures long { IfErr result (λ why. IsWhole why → FitsFew (task_of call.now) → ⊥) }
         ensures unchanged { OnErr result (self.new.history ≡ self.old.history) }
         ensures spaces_kept { OnErr result (self.old.spaces ≤ self.new.spaces) }
 

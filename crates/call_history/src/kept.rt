@@ -1,8 +1,10 @@
 //! Calls as a history keeps them: in few bytes where their names are short and few, as in most.
 
-ghost use Rattle.std.specs.Prelude.{◌≡◌, IfSome, false};
+ghost use Rattle.std.specs.Prelude.{◌≡◌, ◌≤◌, None, IfSome, IsTrue, false, length};
 ghost use Rattle.cvl_text.specs.Named.{ask_call, one_call, two_call};
-ghost use Rattle.call_history.specs.Kept.{IsBrief, call_of, is_whole};
+ghost use Rattle.cvl_calls.specs.Runs.{has_own_step};
+ghost use Rattle.cvl_text.specs.Tasks.{task_of};
+ghost use Rattle.call_history.specs.Kept.{FitsFew, IsBrief, call_of, is_named, is_whole};
 
 use cvl_text::{AskWord, Call, OneWord, TwoWord, call_of_ask, call_of_one, call_of_two};
 use vector_memory::{Name, ShortName};
@@ -54,7 +56,8 @@ const _: () = prove!(size_of::<Kept>() == 32);
 
 /// A call that only replies, if its name is short.
 fn ask(word: AskWord, a: &Name) -> Option<Kept>
-    ensures { IfSome result (IsBrief (ask_call word a.now)) }
+    ensures brief { IfSome result (IsBrief (ask_call word a.now)) }
+    ensures long { result ≡ None → length a.now ≤ 12 → ⊥ }
 {
     let a = a.short()?;
     Some(Kept::Ask { word, a })
@@ -62,7 +65,8 @@ fn ask(word: AskWord, a: &Name) -> Option<Kept>
 
 /// A call of one operand, if its names are short.
 fn one(word: OneWord, to: &Name, a: &Name) -> Option<Kept>
-    ensures { IfSome result (IsBrief (one_call word to.now a.now)) }
+    ensures brief { IfSome result (IsBrief (one_call word to.now a.now)) }
+    ensures long { result ≡ None → length to.now ≤ 12 → length a.now ≤ 12 → ⊥ }
 {
     let (to, a) = (to.short()?, a.short()?);
     Some(Kept::One { word, to, a })
@@ -70,7 +74,8 @@ fn one(word: OneWord, to: &Name, a: &Name) -> Option<Kept>
 
 /// A call of two operands, if its names are short.
 fn two(word: TwoWord, to: &Name, a: &Name, b: &Name) -> Option<Kept>
-    ensures { IfSome result (IsBrief (two_call word to.now a.now b.now)) }
+    ensures brief { IfSome result (IsBrief (two_call word to.now a.now b.now)) }
+    ensures long { result ≡ None → length to.now ≤ 12 → length a.now ≤ 12 → length b.now ≤ 12 → ⊥ }
 {
     let (to, a, b) = (to.short()?, a.short()?, b.short()?);
     Some(Kept::Two { word, to, a, b })
@@ -79,7 +84,9 @@ fn two(word: TwoWord, to: &Name, a: &Name, b: &Name) -> Option<Kept>
 /// A call with numbers, if its names are short and few.
 #[inline(never)]
 fn numbered(call: &Call) -> Option<Kept>
-    ensures { IfSome result (IsBrief call.now) }
+    requires { is_named (task_of call.now).word ≡ false }
+    ensures brief { IfSome result (IsBrief call.now) }
+    ensures long { result ≡ None → FitsFew (task_of call.now) → ⊥ }
 {
     match call {
         Call::Alo { to, n } => {
@@ -102,10 +109,26 @@ fn numbered(call: &Call) -> Option<Kept>
     }
 }
 
+/// `brief` of a call that has a step of its own.
+#[inline(always)]
+pub(crate) fn own_brief(call: &Call) -> Option<Kept>
+    requires { IsTrue (has_own_step (task_of call.now).word) }
+    ensures brief { IfSome result (IsBrief call.now) }
+    ensures long { result ≡ None → FitsFew (task_of call.now) → ⊥ }
+{
+    match call {
+        Call::MapZ2 { op, to, a, b } => two(TwoWord::MapZ2(*op), to, a, b),
+        Call::MapZ1 { op, to, a } => one(OneWord::MapZ1(*op), to, a),
+        Call::ScanOfZ { op, to, a, s: None } => one(OneWord::ScanZ(*op), to, a),
+        _ => unreachable!(),
+    }
+}
+
 /// The call in few bytes, if it has at most three names and numbers, each name is short, and it has no items of its own.
 #[inline(always)]
 pub(crate) fn brief(call: &Call) -> Option<Kept>
-    ensures { IfSome result (IsBrief call.now) }
+    ensures brief { IfSome result (IsBrief call.now) }
+    ensures long { result ≡ None → FitsFew (task_of call.now) → ⊥ }
 {
     match call {
         Call::Get { a } => ask(AskWord::Get, a),

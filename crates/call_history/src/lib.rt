@@ -12,10 +12,12 @@ mod entry;
 mod kept;
 pub mod laws;
 mod log;
+mod owning;
 mod request;
 mod work;
 
 pub use book::{BLOCK_LIMIT, Book, CALLER_LIMIT};
 pub use entry::{CallRef, Entry, EntryRef};
+pub use owning::is_owning;
 pub use request::{Job, Outcome, Request};
 pub use work::{Unserved, Work};

@@ -1,10 +1,10 @@
--- Which calls run a kernel, which take no memory, and whose test of an index takes some.
+-- Which calls run a kernel, which take no memory, whose test of an index takes some, and which have a step of their own.
 use Rattle.std.specs.Prelude.{Bool, true, false}
 use Rattle.cvl_text.specs.declared.word.Word.{Word}
 use Rattle.cvl_text.specs.declared.word.Word.TheVariants.{SetInts, SetBools, Ask, One, Two, Three, Alo, Ext, Rep}
 use Rattle.cvl_text.specs.declared.word.AskWord.TheVariants.{Get, Free, Len}
-use Rattle.cvl_text.specs.declared.word.OneWord.TheVariants.{Mov, MakeSegs, LenSegs}
-use Rattle.cvl_text.specs.declared.word.TwoWord.TheVariants.{Smp}
+use Rattle.cvl_text.specs.declared.word.OneWord.TheVariants.{Mov, MakeSegs, LenSegs, MapZ1, ScanZ}
+use Rattle.cvl_text.specs.declared.word.TwoWord.TheVariants.{MapZ2, Smp}
 use Rattle.cvl_text.specs.declared.word.ThreeWord.TheVariants.{SmpSeg}
 
 -- every call runs one kernel, except these
@@ -27,6 +27,13 @@ abbrev pub tests_index : Word → Bool
 tests_index (Two (Smp kind)) = true
 tests_index (Three (SmpSeg kind)) = true
 tests_index word = false
+
+-- on integers, item by item, and a scan of all: a step of its own judges, runs and stores such a call
+abbrev pub has_own_step : Word → Bool
+has_own_step (One (MapZ1 op)) = true
+has_own_step (One (ScanZ op)) = true
+has_own_step (Two (MapZ2 op)) = true
+has_own_step word = false
 
 -- words whose calls take no memory: they are always answered
 abbrev pub TakesNoMemory : Word → Type 0

@@ -26,7 +26,7 @@ refused m (Some refusals.NoRoom) stored = record { memory = m; answer = FaultOf 
 refused m (Some refusals.TooManyNames) stored = record { memory = m; answer = FaultOf TooManyNames }
 refused m (Some refusals.OutOfMemory) stored = record { memory = m; answer = Done }
 
--- the reply to a store: done, or the fault by which it is refused
+-- the reply to a call that stores a value: done, or the fault by which the call or its store is refused
 abbrev pub answer_to_store : Option Fault → Answer
 answer_to_store None = Done
 answer_to_store (Some fault) = FaultOf fault

@@ -1,4 +1,4 @@
-ghost use Rattle.std.specs.Prelude.{◌≡◌, ◌≤◌, None, IsOk, IfOk, OnErr};
+ghost use Rattle.std.specs.Prelude.{◌≡◌, ◌≤◌, None, IsOk, IsTrue, IfOk, OnErr};
 ghost use Rattle.vector_memory.specs.Contents.{content_of};
 ghost use Rattle.vector_memory.specs.States.{FitsLimits, MayChange, refusal};
 ghost use Rattle.cvl_text.specs.Answers.{answer_of};
@@ -6,7 +6,7 @@ ghost use Rattle.cvl_text.specs.Tasks.{task_of};
 ghost use Rattle.cvl_calls.specs.Outcomes.{Counts, GivesBy, IsDecided, IsFittingEffect, Stores, effect_of, operands_of};
 ghost use Rattle.cvl_calls.specs.Steps.{CountsStep, Grows, MayLackMemory, answer_to_store, applied, runs_on, stepped, stored};
 ghost use Rattle.cvl_calls.specs.Work.{work};
-ghost use Rattle.cvl_calls.specs.Runs.{TakesNoMemory, runs_kernel, tests_index};
+ghost use Rattle.cvl_calls.specs.Runs.{TakesNoMemory, has_own_step, runs_kernel, tests_index};
 
 use crate::judging::judge_by;
 use crate::over::{Change, change_step, map_step};
@@ -279,6 +279,53 @@ pub fn step_with(
             a,
         ),
         _ => step_apart(execution, alloc, meter, spare, memory, call),
+    }
+}
+
+/// `step_with` of a call that has a step of its own. In place of a reply it answers the fault, if there is one: so little is answered
+/// that a short call pays nothing for moving it. In a block there has to be a change left.
+#[inline(always)]
+pub fn step_own(
+    execution: &impl Execution,
+    alloc: Global,
+    meter: &mut Meter,
+    spare: &mut Spare,
+    memory: &mut Memory,
+    call: &Call,
+) -> Result<Option<Fault>, OutOfMemory>
+    requires own { IsTrue (has_own_step (task_of call.now).word) }
+    requires may_change { MayChange memory.old }
+    ensures ok { IfOk result (λ fault. stepped memory.old (task_of call.now)
+        ≡ record { memory = memory.new; answer = answer_to_store fault }) }
+    ensures lacks { OnErr result (MayLackMemory memory.old (task_of call.now)) }
+    ensures err { OnErr result (memory.new ≡ memory.old) }
+    ensures counted { CountsStep (runs_on memory.old (task_of call.now)) result meter.old meter.new }
+{
+    match call {
+        Call::MapZ2 { op, to, a, b } => map_step(
+            execution, alloc, meter, spare, memory, *op, to, a, b,
+        ),
+        Call::MapZ1 { op, to, a } => change_step(
+            execution,
+            alloc,
+            meter,
+            spare,
+            memory,
+            Change::Alter(*op),
+            to,
+            a,
+        ),
+        Call::ScanOfZ { op, to, a, s: None } => change_step(
+            execution,
+            alloc,
+            meter,
+            spare,
+            memory,
+            Change::Scan(*op),
+            to,
+            a,
+        ),
+        _ => unreachable!(),
     }
 }
 

@@ -4,6 +4,7 @@
 mod alike;
 mod held;
 mod one;
+mod said;
 mod two;
 
 pub use alike::step_alike;

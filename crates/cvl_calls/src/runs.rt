@@ -1,8 +1,8 @@
-//! Which calls run a kernel, and which run the same one.
+//! Which calls run a kernel, which run the same one, and which have a step of their own.
 
 ghost use Rattle.std.specs.Prelude.{◌≡◌, ◌↔◌, IsTrue};
 ghost use Rattle.cvl_text.specs.Tasks.{task_of};
-ghost use Rattle.cvl_calls.specs.Runs.{runs_kernel};
+ghost use Rattle.cvl_calls.specs.Runs.{has_own_step, runs_kernel};
 
 use cvl_text::{AskWord, Call, OneWord, Word, call_word};
 
@@ -53,6 +53,19 @@ fn makes_by_kernel(word: OneWord) -> bool
         OneWord::IntOf => true,
         OneWord::ScanZ(_) => true,
         OneWord::ScanB(_) => true,
+    }
+}
+
+/// Whether a call has a step of its own, by `step_own`: `MapZ2`, `MapZ1`, and `ScanOfZ` of all items.
+#[inline(always)]
+pub fn has_own_step(call: &Call) -> bool
+    ensures { result ≡ has_own_step (task_of call.now).word }
+{
+    match call {
+        Call::MapZ2 { .. } => true,
+        Call::MapZ1 { .. } => true,
+        Call::ScanOfZ { s: None, .. } => true,
+        _ => false,
     }
 }
 

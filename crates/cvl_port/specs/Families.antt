@@ -48,14 +48,3 @@ is_plain (calls.LenSegs to s) = true
 is_plain (calls.Ext a p) = true
 is_plain (calls.Rep to a p x) = true
 is_plain other = false
-
--- with items or names behind a pointer
-abbrev pub is_owning : Call → Bool
-is_owning (calls.SetInts to items) = true
-is_owning (calls.SetBools to items) = true
-is_owning (calls.Sel kind to f a b) = true
-is_owning (calls.IndSeg to a b s) = true
-is_owning (calls.SmpSeg kind to a i s) = true
-is_owning (calls.BckSeg kind to a s index) = true
-is_owning (calls.PckSeg kind to a f s) = true
-is_owning other = false

@@ -7,11 +7,12 @@ ghost use Rattle.cvl_port.specs.Lines.{line_task};
 ghost use Rattle.cvl_port.specs.Posts.{prepared_task};
 ghost use Rattle.cvl_port.specs.declared.fault.PostFault.TheVariants.{BadCall, NotPrepared};
 
-use crate::copying::{copy_flat, is_owning};
+use crate::copying::copy_flat;
 use crate::fault::PostFault;
 use crate::last::Last;
 use crate::port::Port;
 use crate::preparing::{copied, prepared};
+use call_history::is_owning;
 use combiner::Polled;
 use cvl_text::Call;
 use scan_kernels::Sequential;

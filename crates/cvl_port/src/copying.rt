@@ -3,28 +3,13 @@
 
 ghost use Rattle.std.specs.Prelude.{◌≡◌, IfOk, IsTrue, false};
 ghost use Rattle.cvl_text.specs.Tasks.{task_of};
-ghost use Rattle.cvl_port.specs.Families.{is_map, is_move, is_owning, is_plain, is_scan};
+ghost use Rattle.call_history.specs.Owning.{is_owning};
+ghost use Rattle.cvl_port.specs.Families.{is_map, is_move, is_plain, is_scan};
 
+use call_history::is_owning;
 use cvl_text::Call;
 use std::alloc::Global;
 use vector_memory::OutOfMemory;
-
-/// Whether a call has items or names behind a pointer.
-#[inline(always)]
-pub(crate) fn is_owning(call: &Call) -> bool
-    ensures { result ≡ is_owning call.now }
-{
-    match call {
-        Call::SetInts { .. }
-        | Call::SetBools { .. }
-        | Call::Sel { .. }
-        | Call::IndSeg { .. }
-        | Call::SmpSeg { .. }
-        | Call::BckSeg { .. }
-        | Call::PckSeg { .. } => true,
-        _ => false,
-    }
-}
 
 /// A call that asks for the same, of one with nothing behind a pointer. It takes no memory.
 #[inline(always)]

@@ -3,12 +3,12 @@
 ghost use Rattle.std.specs.Prelude.{[], ◌≡◌, ℤ, List, Some, None, length, IfOk, IfSome, IsTrue, OnErr};
 ghost use Rattle.vector_memory.specs.Contents.{Ints, content_of};
 ghost use Rattle.vector_memory.specs.States.{FitsLimits, MayChange, put, refusal, value_at};
-ghost use Rattle.cvl_text.specs.Answers.{answer_of};
 ghost use Rattle.cvl_calls.specs.Over.{IsInts, WasTaken};
 ghost use Rattle.cvl_calls.specs.Steps.{stored};
 
+use crate::over::said::Said;
 use crate::spare::Spare;
-use cvl_text::{Fault, Reply};
+use cvl_text::Fault;
 use scan_kernels::{Execution, Meter, Source, overwrites_pay};
 use std::alloc::Global;
 use vector_memory::laws::memories_are_lawful;
@@ -81,19 +81,19 @@ pub(crate) fn give(memory: &mut Memory, name: Name, items: Vec<i64>)
     }
 }
 
-/// Stores a value that a call made, and keeps the vector that it replaced for a next result: the reply. In a block there has to be a
-/// change left.
+/// Stores a value that a call made, and keeps the vector that it replaced for a next result: what is said of it. In a block there has to
+/// be a change left.
 #[inline(always)]
-pub(crate) fn store(
+pub(crate) fn store<S: Said>(
     spare: &mut Spare,
     memory: &mut Memory,
     to: &Name,
     value: Value,
-) -> Result<Reply, OutOfMemory>
+) -> Result<S, OutOfMemory>
     requires fits { FitsLimits memory.old.limit (content_of value) }
     requires may_change { MayChange memory.old }
-    ensures ok { IfOk result (λ reply. stored memory.old to.now (content_of value)
-        ≡ record { memory = memory.new; answer = answer_of reply }) }
+    ensures ok { IfOk result (λ said. stored memory.old to.now (content_of value)
+        ≡ record { memory = memory.new; answer = S.answer said }) }
     ensures err { OnErr result (memory.new ≡ memory.old) }
 {
     match memory.replace(*to, value) {
@@ -101,10 +101,10 @@ pub(crate) fn store(
             if let Some(value) = before {
                 spare.keep(value);
             }
-            Ok(Reply::Done)
+            Ok(S::done())
         }
-        Err(StoreFault::NoRoom) => Ok(Reply::Fault(Fault::NoRoom)),
-        Err(StoreFault::TooManyNames) => Ok(Reply::Fault(Fault::TooManyNames)),
+        Err(StoreFault::NoRoom) => Ok(S::refused(Fault::NoRoom)),
+        Err(StoreFault::TooManyNames) => Ok(S::refused(Fault::TooManyNames)),
         Err(StoreFault::OutOfMemory) => Err(OutOfMemory),
     }
 }

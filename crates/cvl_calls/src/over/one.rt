@@ -7,7 +7,7 @@ ghost use Rattle.scan_kernels.specs.Metering.{CountsRun, raised};
 ghost use Rattle.vector_memory.specs.Contents.{Ints};
 ghost use Rattle.vector_memory.specs.Names.{same_name};
 ghost use Rattle.vector_memory.specs.States.{MayChange, value_at};
-ghost use Rattle.cvl_text.specs.Answers.{Done, answer_of};
+ghost use Rattle.cvl_text.specs.Answers.{Done};
 ghost use Rattle.cvl_calls.specs.Operands.{integers};
 ghost use Rattle.cvl_calls.specs.Outcomes.{Held, MayRunOut, Stores, viewed};
 ghost use Rattle.cvl_calls.specs.Over.{IsInts, made_by, work_by};
@@ -16,8 +16,9 @@ ghost use Rattle.cvl_calls.specs.Work.{map_one, scan};
 
 use crate::operands::ints;
 use crate::over::held::{give, is_ints, may_go_over, store, take};
+use crate::over::said::Said;
 use crate::spare::Spare;
-use cvl_text::{Fault, Reply, ScanZ, Z1};
+use cvl_text::{Fault, ScanZ, Z1};
 use scan_kernels::{
     Execution, Meter, Source, map1_z, map1_z_over, scan_whole_z, scan_whole_z_over,
 };
@@ -115,7 +116,7 @@ fn made(
 /// there has to be a change left.
 #[tactic(auto, using(crate::proofs::Written::as_long_as_one))]
 #[inline(never)]
-pub(crate) fn change_step(
+pub(crate) fn change_step<S: Said>(
     execution: &impl Execution,
     alloc: Global,
     meter: &mut Meter,
@@ -124,21 +125,21 @@ pub(crate) fn change_step(
     change: Change,
     to: &Name,
     a: &Name,
-) -> Result<Reply, OutOfMemory>
+) -> Result<S, OutOfMemory>
     requires may_change { MayChange memory.old }
-    ensures ok { IfOk result (λ reply. followed memory.old (Some to.now) (work_by change (Held (value_at memory.old a.now)))
-        ≡ record { memory = memory.new; answer = answer_of reply }) }
+    ensures ok { IfOk result (λ said. followed memory.old (Some to.now) (work_by change (Held (value_at memory.old a.now)))
+        ≡ record { memory = memory.new; answer = S.answer said }) }
     ensures lacks { OnErr result (MayRunOut false (work_by change (Held (value_at memory.old a.now)))) }
     ensures err { OnErr result (memory.new ≡ memory.old) }
     ensures counted { CountsStep (is_ok (work_by change (Held (value_at memory.old a.now)))) result meter.old meter.new }
 {
     let xs = match operand(memory, change, a) {
         Ok(xs) => xs,
-        Err(fault) => return Ok(Reply::Fault(fault)),
+        Err(fault) => return Ok(S::refused(fault)),
     };
     if goes_over(execution, &spare, meter, memory, xs.len(), to, a) {
         change_over(alloc, meter, memory, change, *to);
-        return Ok(Reply::Done);
+        return Ok(S::done());
     }
     let Ok(items) = made(execution, &mut *spare, meter, change, xs) else {
         return Err(OutOfMemory);

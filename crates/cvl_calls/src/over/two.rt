@@ -6,7 +6,7 @@ ghost use Rattle.scan_kernels.specs.Elementwise.{item_by_item};
 ghost use Rattle.scan_kernels.specs.Metering.{raised};
 ghost use Rattle.vector_memory.specs.Names.{same_name};
 ghost use Rattle.vector_memory.specs.States.{MayChange, value_at};
-ghost use Rattle.cvl_text.specs.Answers.{Done, answer_of};
+ghost use Rattle.cvl_text.specs.Answers.{Done};
 ghost use Rattle.cvl_calls.specs.Conditions.{seconds};
 ghost use Rattle.cvl_calls.specs.Operands.{integers};
 ghost use Rattle.cvl_calls.specs.Outcomes.{Held, MayRunOut};
@@ -17,9 +17,10 @@ ghost use Rattle.cvl_calls.specs.Work.{map_two};
 use crate::conditions::seconds;
 use crate::judged::Judged;
 use crate::over::held::{give, lent, may_go_over, store, take};
+use crate::over::said::Said;
 use crate::shapes::elementwise::map_ints;
 use crate::spare::Spare;
-use cvl_text::{Reply, Z2};
+use cvl_text::Z2;
 use scan_kernels::{Execution, Meter, Source, map2_z, map2_z_over_first, map2_z_over_second};
 use std::alloc::Global;
 use vector_memory::laws::memories_are_lawful;
@@ -176,7 +177,7 @@ fn goes_over(
 /// The step of `to = OP a b` on integers, which is judged, run and stored here: what all calls share is moved and cleared for more
 /// than a short one takes. In a block there has to be a change left.
 #[inline(never)]
-pub(crate) fn map_step(
+pub(crate) fn map_step<S: Said>(
     execution: &impl Execution,
     alloc: Global,
     meter: &mut Meter,
@@ -186,10 +187,10 @@ pub(crate) fn map_step(
     to: &Name,
     a: &Name,
     b: &Name,
-) -> Result<Reply, OutOfMemory>
+) -> Result<S, OutOfMemory>
     requires may_change { MayChange memory.old }
-    ensures ok { IfOk result (λ reply. followed memory.old (Some to.now) (map_two integers integers (seconds op) (apply_z op) (Held (value_at memory.old a.now)) (Held (value_at memory.old b.now)))
-        ≡ record { memory = memory.new; answer = answer_of reply }) }
+    ensures ok { IfOk result (λ said. followed memory.old (Some to.now) (map_two integers integers (seconds op) (apply_z op) (Held (value_at memory.old a.now)) (Held (value_at memory.old b.now)))
+        ≡ record { memory = memory.new; answer = S.answer said }) }
     ensures lacks { OnErr result (MayRunOut false (map_two integers integers (seconds op) (apply_z op) (Held (value_at memory.old a.now)) (Held (value_at memory.old b.now)))) }
     ensures err { OnErr result (memory.new ≡ memory.old) }
     ensures counted { CountsStep (is_ok (map_two integers integers (seconds op) (apply_z op) (Held (value_at memory.old a.now)) (Held (value_at memory.old b.now)))) result meter.old meter.new }
@@ -197,14 +198,14 @@ pub(crate) fn map_step(
     memories_are_lawful(memory);
     let judged = match map_ints(memory, op, a, b) {
         Ok(judged) => judged,
-        Err(fault) => return Ok(Reply::Fault(fault)),
+        Err(fault) => return Ok(S::refused(fault)),
     };
     let Judged::MapInts(judged_op, xs, ys) = judged else {
         unreachable!()
     };
     if goes_over(execution, &spare, meter, memory, xs.len(), op, to, a, b) {
         map_over(alloc, meter, memory, op, *to, a, b);
-        return Ok(Reply::Done);
+        return Ok(S::done());
     }
     let Ok(made) = map2_z(execution, &mut *spare, meter, judged_op, xs, ys) else {
         return Err(OutOfMemory);

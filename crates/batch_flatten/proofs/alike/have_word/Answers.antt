@@ -10,8 +10,7 @@ loop-request-preserved c =
     let i = c.loop-request.request-index in
     let r = c.request-item.result in
     let lt : i < length rs = omega arith in
-    let same = c.is_same_word.ensures.0 c.if-not-is_same_word.false in
-    let here = ap word_asked (sym c.request-item.is) ∙ (sym c.job_word.ensures ∙ same) in
+    let here = ap word_asked (sym c.request-item.is) ∙ c.has_word.ensures c.if-not-has_word.false in
     subst (All (λ q. word_asked q ≡ c.args.word)) (sym (take_more rs i r lt)) (All-push (λ q. word_asked q ≡ c.args.word) (take i rs) (get_or rs i r) c.loop-request.invariant here)
 
 pub returns : goal.returns

@@ -6,12 +6,7 @@ use Rattle.call_history.specs.Books.{memory_of}
 use Rattle.batch_flatten.proofs.CountLemmas.{rises-kernel}
 use Rattle.batch_flatten.proofs.alone.run_call_onto.Goals as goal
 
-pub returns-in-Ok-clause-counted : goal.returns-in-Ok-clause-counted
-returns-in-Ok-clause-counted g c =
+pub returns-clause-counted : goal.returns-clause-counted
+returns-clause-counted g c =
     let t = task_of c.args.call in
-    rises-kernel (runs_kernel t.word) (is_ok (work_on (memory_of c.args.book.now) t)) c.run_metered_lent.result c.args.meter.now c.run_metered_lent.new.meter c.run_metered_lent.ensures.counted
-
-pub returns-in-Err-OutOfMemory-clause-counted : goal.returns-in-Err-OutOfMemory-clause-counted
-returns-in-Err-OutOfMemory-clause-counted g c =
-    let t = task_of c.args.call in
-    rises-kernel (runs_kernel t.word) (is_ok (work_on (memory_of c.args.book.now) t)) c.run_metered_lent.result c.args.meter.now c.run_metered_lent.new.meter c.run_metered_lent.ensures.counted
+    rises-kernel (runs_kernel t.word) (is_ok (work_on (memory_of c.args.book.now) t)) c.run_metered.result c.args.meter.now c.run_metered.new.meter c.run_metered.ensures.counted

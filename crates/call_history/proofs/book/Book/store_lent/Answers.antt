@@ -19,7 +19,7 @@ pub invariant_of-self-2 : goal.invariant_of-self-2
 invariant_of-self-2 c =
     let history = c.self.inside.log.entries in
     let added = next_entry history c.args.caller c.args.call.now in
-    let items : c.enter_brief-entry.new.log.entries ≡ history ++ added ∷ [] = c.enter_brief-entry.ensures.entries ∙ ap (λ call. history ++ next_before history c.args.caller call 0 ∷ []) c.in-Some.ensures.0 in
+    let items : c.enter_brief-entry.new.log.entries ≡ history ++ added ∷ [] = c.enter_brief-entry.ensures.entries ∙ ap (λ call. history ++ next_before history c.args.caller call 0 ∷ []) c.in-Some.ensures.brief.0 in
     record {
       replayed = replay-push c.self.inside.memory c.stored.new.memory history added c.self.invariant.replayed (ap (λ s. s.memory) c.in-Ok.ensures.ok)
           ∙ ap (λ es. replay (bounds_of c.stored.new.memory) es) (sym items);
