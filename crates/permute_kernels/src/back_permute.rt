@@ -43,12 +43,11 @@ pub fn back_permute_z(
                 index,
                 by,
             });
-            ints_by_chunks(execution, alloc, row, size)?
+            ints_by_chunks(execution, alloc, row, size)
         }
-        None => gather_each(alloc, items, source, index, by)?,
+        None => gather_each(alloc, items, source, index, by),
     };
-    meter.raise();
-    Ok(made)
+    meter.count(made)
 }
 
 /// The same for truth values.
@@ -78,12 +77,11 @@ pub fn back_permute_b(
                 index,
                 by,
             });
-            bools_by_chunks(execution, alloc, row, size)?
+            bools_by_chunks(execution, alloc, row, size)
         }
-        None => gather_each(alloc, flags, source, index, by)?,
+        None => gather_each(alloc, flags, source, index, by),
     };
-    meter.raise();
-    Ok(made)
+    meter.count(made)
 }
 
 pub(crate) fn gather_each<T: Copy + Send + Sync>(

@@ -30,12 +30,11 @@ pub fn gather_z(
     let made = match gather_size(execution, meter, index.len()) {
         Some(size) => {
             let row = IntRow::Gathered(Gathered { items, index });
-            ints_by_pieces(execution, alloc, row, size)?
+            ints_by_pieces(execution, alloc, row, size)
         }
-        None => gathered(alloc, items, index)?,
+        None => gathered(alloc, items, index),
     };
-    meter.raise();
-    Ok(made)
+    meter.count(made)
 }
 
 /// The same for truth values.
@@ -57,12 +56,11 @@ pub fn gather_b(
                 items: flags,
                 index,
             });
-            bools_by_chunks(execution, alloc, row, size)?
+            bools_by_chunks(execution, alloc, row, size)
         }
-        None => gathered(alloc, flags, index)?,
+        None => gathered(alloc, flags, index),
     };
-    meter.raise();
-    Ok(made)
+    meter.count(made)
 }
 
 #[inline(never)]

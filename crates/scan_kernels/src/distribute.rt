@@ -38,12 +38,11 @@ pub fn distribute_z(
                 lengths,
                 total,
             });
-            ints_by_chunks(execution, alloc, row, size)?
+            ints_by_chunks(execution, alloc, row, size)
         }
-        None => distribute(alloc, values, lengths, total)?,
+        None => distribute(alloc, values, lengths, total),
     };
-    meter.raise();
-    Ok(made)
+    meter.count(made)
 }
 
 /// Truth value j as often as segment j is long, in one pass into a vector of its final size. There are as many truth
@@ -68,12 +67,11 @@ pub fn distribute_b(
                 lengths,
                 total,
             });
-            bools_by_chunks(execution, alloc, row, size)?
+            bools_by_chunks(execution, alloc, row, size)
         }
-        None => distribute(alloc, flags, lengths, total)?,
+        None => distribute(alloc, flags, lengths, total),
     };
-    meter.raise();
-    Ok(made)
+    meter.count(made)
 }
 
 pub(crate) fn distribute<T: Copy + Send + Sync>(

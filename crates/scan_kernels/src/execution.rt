@@ -9,9 +9,7 @@ ghost use Rattle.segment_desc.specs.Appended.{Appends};
 ghost use Rattle.scan_kernels.specs.RowLists.{AreAsLong, AreMade};
 ghost use Rattle.scan_kernels.specs.Lists.{FitBools, FitInts, bools_of, ints_of};
 
-use crate::in_order::{
-    write_bools_in_order, write_each_bools_in_order, write_each_ints_in_order, write_ints_in_order,
-};
+use crate::in_order::{write_each_in_order, write_in_order};
 use crate::in_threads::{
     write_bools_in_threads, write_each_bools_in_threads, write_each_ints_in_threads,
     write_ints_beside, write_ints_in_threads,
@@ -134,7 +132,7 @@ impl Execution for Sequential {
     }
 
     fn write_ints(&self, row: IntRow<'_>, size: usize, list: &mut [i64]) {
-        write_ints_in_order(row, size, list)
+        write_in_order(row, size, list)
     }
 
     fn write_ints_beside(
@@ -151,14 +149,14 @@ impl Execution for Sequential {
     }
 
     fn write_bools(&self, row: BoolRow<'_>, size: usize, list: &mut [bool]) {
-        write_bools_in_order(row, size, list)
+        write_in_order(row, size, list)
     }
 
     fn write_each_ints(&self, rows: &[IntRow<'_>], size: usize, lists: &mut [Vec<i64>]) {
-        write_each_ints_in_order(rows, size, lists)
+        write_each_in_order(rows, size, lists)
     }
 
     fn write_each_bools(&self, rows: &[BoolRow<'_>], size: usize, lists: &mut [Vec<bool>]) {
-        write_each_bools_in_order(rows, size, lists)
+        write_each_in_order(rows, size, lists)
     }
 }

@@ -4,15 +4,18 @@ ghost use Rattle.std.specs.Prelude.{◌≡◌, ◌≤◌, Some, replicate, slice
 ghost use Rattle.segment_desc.specs.Lengths.{most};
 ghost use Rattle.scan_kernels.specs.Indexed.{indexed};
 
+use crate::copies::clone_by_copy;
 use crate::indices::index_at;
 use crate::placewise::Placewise;
 
 /// An item so many times.
-#[derive(Clone, Copy)]
+#[derive(Copy)]
 pub struct Repeated<T> {
     pub item: T,
     pub count: usize,
 }
+
+clone_by_copy!(<T> Repeated<T>);
 
 impl<T: Copy> Placewise<T> for Repeated<T> {
     ghost Fits = { λ l. Unit {0} };

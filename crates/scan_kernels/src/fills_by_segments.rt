@@ -7,18 +7,21 @@ ghost use Rattle.segment_desc.specs.Lengths.{IsWithinLimits};
 ghost use Rattle.scan_kernels.specs.Distributed.{distributed};
 ghost use Rattle.scan_kernels.specs.Indexed.{indexed, segmented_index};
 
+use crate::copies::clone_by_copy;
 use crate::fills::{Repeated, Rising};
 use crate::placewise::write_from;
 use crate::segmentwise::Segmentwise;
 
 /// Each value as often as its segment is long. There are as many values as segments.
-#[derive(Clone, Copy)]
+#[derive(Copy)]
 pub struct Distributed<'a, T> {
     pub values: &'a [T],
     pub lengths: &'a [usize],
     /// The sum of the lengths.
     pub total: usize,
 }
+
+clone_by_copy!(<T> Distributed<'_, T>);
 
 impl<T: Copy> Segmentwise<T> for Distributed<'_, T> {
     ghost Fits = { λ l. (length l.lengths.now ≡ length l.values.now) × (l.total ≡ sum l.lengths.now) };

@@ -10,7 +10,7 @@ use crate::in_turn::{
     are_few, write_bools_in_turn, write_each_bools_in_turn, write_each_ints_in_turn,
     write_ints_in_turn,
 };
-use crate::row_lists::{write_bool_lists, write_int_lists};
+use crate::row_lists::write_lists;
 use crate::rows::{BoolRow, IntRow, write_bools, write_ints};
 use rayon::join_mut;
 use rayon::prelude::*;
@@ -126,7 +126,7 @@ pub fn write_each_ints_in_threads<R: Threads + Sync>(
             requires { All FitInts rows.now × AreAsLong ints_of rows.now start part.now }
             ensures { AreMade ints_of rows.entry.now start part.old part.new }
         {
-            write_int_lists(rows, start, part);
+            write_lists(rows, start, part);
         },
     );
 }
@@ -154,7 +154,7 @@ pub fn write_each_bools_in_threads<R: Threads + Sync>(
             requires { All FitBools rows.now × AreAsLong bools_of rows.now start part.now }
             ensures { AreMade bools_of rows.entry.now start part.old part.new }
         {
-            write_bool_lists(rows, start, part);
+            write_lists(rows, start, part);
         },
     );
 }

@@ -7,7 +7,7 @@ ghost use Rattle.std.specs.Thread.{IsSync};
 ghost use Rattle.scan_kernels.specs.RowLists.{AreAsLong, AreMade};
 ghost use Rattle.scan_kernels.specs.Lists.{FitBools, FitInts, bools_of, ints_of};
 
-use crate::row_lists::{write_bool_lists, write_int_lists};
+use crate::row_lists::write_lists;
 use crate::rows::{BoolRow, IntRow, write_bools, write_ints};
 use rayon::join_mut;
 use std::marker::Sync;
@@ -146,7 +146,7 @@ pub(crate) fn write_each_ints_in_turn<R: Threads + Sync>(
     ensures { AreMade ints_of rows.now start lists.old lists.new }
 {
     if lists.len() <= size {
-        write_int_lists(rows, start, lists);
+        write_lists(rows, start, lists);
         return;
     }
     let (first, rest) = lists.split_at_mut(size);
@@ -174,7 +174,7 @@ fn write_each_both_ints<R: Threads + Sync>(
     let mut one = ||
         requires { All FitInts rows.now × AreAsLong ints_of rows.now start first.now }
         ensures { AreMade ints_of rows.entry.now start first.entry.now first.exit.now }
-    { write_int_lists(rows, start, first) };
+    { write_lists(rows, start, first) };
     let mut others = ||
         requires { IsSync R.row × (0 < size) × All FitInts rows.now × AreAsLong ints_of rows.now next rest.now }
         ensures { AreMade ints_of rows.entry.now next rest.entry.now rest.exit.now }
@@ -197,7 +197,7 @@ pub(crate) fn write_each_bools_in_turn<R: Threads + Sync>(
     ensures { AreMade bools_of rows.now start lists.old lists.new }
 {
     if lists.len() <= size {
-        write_bool_lists(rows, start, lists);
+        write_lists(rows, start, lists);
         return;
     }
     let (first, rest) = lists.split_at_mut(size);
@@ -225,7 +225,7 @@ fn write_each_both_bools<R: Threads + Sync>(
     let mut one = ||
         requires { All FitBools rows.now × AreAsLong bools_of rows.now start first.now }
         ensures { AreMade bools_of rows.entry.now start first.entry.now first.exit.now }
-    { write_bool_lists(rows, start, first) };
+    { write_lists(rows, start, first) };
     let mut others = ||
         requires { IsSync R.row × (0 < size) × All FitBools rows.now × AreAsLong bools_of rows.now next rest.now }
         ensures { AreMade bools_of rows.entry.now next rest.entry.now rest.exit.now }

@@ -42,12 +42,11 @@ pub fn index(
                 lengths,
                 total,
             });
-            ints_by_chunks(execution, alloc, row, size)?
+            ints_by_chunks(execution, alloc, row, size)
         }
-        None => index_each(alloc, starts, strides, lengths, total)?,
+        None => index_each(alloc, starts, strides, lengths, total),
     };
-    meter.raise();
-    Ok(made)
+    meter.count(made)
 }
 
 pub(crate) fn index_each(

@@ -9,7 +9,7 @@ ghost use Rattle.scan_kernels.specs.RowLists.{AreAsLong};
 
 use crate::chunks::{WRITES_PAY, joined_size};
 use crate::execution::Execution;
-use crate::joined_rows::{IntKernel, int_rows, total_ints};
+use crate::joined_rows::{IntKernel, int_rows, total};
 use crate::meter::Meter;
 use crate::rows::{IntRow, count_ints};
 use segment_desc::OutOfMemory;
@@ -46,7 +46,7 @@ fn write_over(
     ensures long { map (λ v. length v.items) lists.new.items ≡ map (λ v. length v.items) lists.old.items }
     ensures exact { All IsExact lists.old.items → All IsExact lists.new.items }
 {
-    let total = total_ints(rows);
+    let total = total(rows);
     let chunks = joined_size(execution, meter, rows.len(), total, total >= WRITES_PAY);
     let size = chunks.unwrap_or(rows.len().max(1));
     execution.write_each_ints(rows, size, lists);

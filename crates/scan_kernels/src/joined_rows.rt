@@ -11,7 +11,8 @@ use crate::chunks::{WRITES_PAY, joined_size, may_go_by_chunks};
 use crate::execution::Execution;
 use crate::kernel::JoinedKernel;
 use crate::meter::Meter;
-use crate::rows::{BoolRow, IntRow, count_bools, count_ints};
+use crate::row::Row;
+use crate::rows::{BoolRow, IntRow};
 use crate::shelf::{Shelf, WORTH_A_SEARCH};
 use crate::source::Source;
 use segment_desc::OutOfMemory;
@@ -52,24 +53,24 @@ pub(crate) fn int_rows<'a, P, K: IntKernel<'a, P>>(
     Some(rows)
 }
 
-/// How many integers the rows have, or as many as can be told.
-pub(crate) fn total_ints(rows: &[IntRow<'_>]) -> usize
-    requires { All FitInts rows.now }
+/// How many items the rows have, or as many as can be told.
+pub(crate) fn total<R: Row>(rows: &[R]) -> usize
+    requires { All R.Fits rows.now }
 {
     let mut total: usize = 0;
     for row in rows {
-        total = total.saturating_add(count_ints(*row));
+        total = total.saturating_add(row.count());
     }
     total
 }
 
-/// How many of the rows have so many integers.
-fn alike_ints(rows: &[IntRow<'_>], count: usize) -> usize
-    requires { All FitInts rows.now }
+/// How many of the rows have so many items.
+fn alike<R: Row>(rows: &[R], count: usize) -> usize
+    requires { All R.Fits rows.now }
 {
     let mut alike: usize = 0;
     for row in rows {
-        if count_ints(*row) == count {
+        if row.count() == count {
             alike = alike.saturating_add(1);
         }
     }
@@ -78,16 +79,53 @@ fn alike_ints(rows: &[IntRow<'_>], count: usize) -> usize
 
 /// Whether a vector lies on the shelf for each row of so many items that one is sought; shorter rows need none. As few lie there, at most
 /// 65 rows are compared with all others.
-fn lie_ready_ints(shelf: &Shelf<i64>, rows: &[IntRow<'_>]) -> bool
-    requires { All FitInts rows.now }
+fn lie_ready<R: Row>(shelf: &Shelf<R::Item>, rows: &[R]) -> bool
+    requires { All R.Fits rows.now }
 {
     for row in rows {
-        let count = count_ints(*row);
-        if count >= WORTH_A_SEARCH && shelf.full_ones(count) < alike_ints(rows, count) {
+        let count = row.count();
+        if count >= WORTH_A_SEARCH && shelf.full_ones(count) < alike(rows, count) {
             return false;
         }
     }
     true
+}
+
+/// How many of the rows make a chunk, if they go by chunks.
+fn rows_of_a_chunk<R: Row>(
+    execution: &impl Execution,
+    shelf: &Shelf<R::Item>,
+    meter: &Meter,
+    rows: &[R],
+) -> Option<usize>
+    requires { All R.Fits rows.now }
+    ensures { IfSome result (λ size. 0 < size) }
+{
+    let total = total(rows);
+    let pays = total >= WRITES_PAY && lie_ready(shelf, rows);
+    joined_size(execution, meter, rows.len(), total, pays)
+}
+
+/// A vector of as many items, which are to be written over.
+fn ready<R: Row>(shelf: &mut Shelf<R::Item>, count: usize) -> Result<Vec<R::Item>, AllocError>
+    ensures long { IfOk result (λ v. length v.items ≡ count) }
+    ensures exact { IfOk result (λ v. IsExact v) }
+{
+    shelf.ready(R::blank(), count)
+}
+
+/// A vector for each row, with as many items.
+fn lists<R: Row>(shelf: &mut Shelf<R::Item>, rows: &[R]) -> Result<Vec<Vec<R::Item>>, AllocError>
+    requires { All R.Fits rows.now }
+    ensures long { IfOk result (λ lists. AreAsLong R.items rows.now 0 lists.items) }
+    ensures count { IfOk result (λ lists. length lists.items ≡ length rows.now) }
+    ensures exact { IfOk result (λ lists. All IsExact lists.items) }
+{
+    let mut lists = Vec::with_capacity(shelf.allocator(), rows.len())?;
+    for row in rows {
+        lists.push_reserved(ready::<R>(shelf, row.count())?);
+    }
+    Ok(lists)
 }
 
 /// The rows of the parts, and how many of them make a chunk, if they go by chunks.
@@ -107,32 +145,8 @@ fn chunked_ints<'a, P, K: IntKernel<'a, P>>(
         return None;
     }
     let rows = int_rows(shelf.allocator(), kernel, parts)?;
-    let total = total_ints(&rows);
-    let pays = total >= WRITES_PAY && lie_ready_ints(shelf, &rows);
-    let size = joined_size(execution, meter, rows.len(), total, pays)?;
+    let size = rows_of_a_chunk(execution, shelf, meter, &rows)?;
     Some((rows, size))
-}
-
-/// A vector of as many items, which are to be written over.
-fn ready_ints(shelf: &mut Shelf<i64>, count: usize) -> Result<Vec<i64>, AllocError>
-    ensures long { IfOk result (λ v. length v.items ≡ count) }
-    ensures exact { IfOk result (λ v. IsExact v) }
-{
-    shelf.ready(0, count)
-}
-
-/// A vector for each row, with as many items.
-fn int_lists(shelf: &mut Shelf<i64>, rows: &[IntRow<'_>]) -> Result<Vec<Vec<i64>>, AllocError>
-    requires { All FitInts rows.now }
-    ensures long { IfOk result (λ lists. AreAsLong ints_of rows.now 0 lists.items) }
-    ensures count { IfOk result (λ lists. length lists.items ≡ length rows.now) }
-    ensures exact { IfOk result (λ lists. All IsExact lists.items) }
-{
-    let mut lists = Vec::with_capacity(shelf.allocator(), rows.len())?;
-    for row in rows {
-        lists.push_reserved(ready_ints(shelf, count_ints(*row))?);
-    }
-    Ok(lists)
 }
 
 /// The integers of each row, in a vector of its own, by chunks of so many rows.
@@ -147,7 +161,7 @@ fn int_lists_by_chunks(
     ensures items { IfOk result (λ made. parts_made made.items ≡ map ints_of rows.now) }
     ensures exact { IfOk result (λ made. All IsExact made.items) }
 {
-    let mut lists = int_lists(shelf, rows)?;
+    let mut lists = lists(shelf, rows)?;
     execution.write_each_ints(rows, size, &mut lists);
     Ok(lists)
 }
@@ -166,11 +180,10 @@ pub fn run_joined_ints<'a, P, K: IntKernel<'a, P>>(
     ensures counted { CountsRun result meter.old meter.new }
 {
     let made = match chunked_ints(execution, shelf, meter, kernel, parts) {
-        Some((rows, size)) => int_lists_by_chunks(execution, shelf, &rows, size)?,
-        None => kernel.run_each(shelf, parts)?,
+        Some((rows, size)) => int_lists_by_chunks(execution, shelf, &rows, size),
+        None => kernel.run_each(shelf, parts),
     };
-    meter.raise();
-    Ok(made)
+    meter.count(made)
 }
 
 /// The results of all parts as rows, if there is memory for their list.
@@ -190,44 +203,6 @@ fn bool_rows<'a, P, K: BoolKernel<'a, P>>(
     Some(rows)
 }
 
-/// How many truth values the rows have, or as many as can be told.
-fn total_bools(rows: &[BoolRow<'_>]) -> usize
-    requires { All FitBools rows.now }
-{
-    let mut total: usize = 0;
-    for row in rows {
-        total = total.saturating_add(count_bools(*row));
-    }
-    total
-}
-
-/// How many of the rows have so many truth values.
-fn alike_bools(rows: &[BoolRow<'_>], count: usize) -> usize
-    requires { All FitBools rows.now }
-{
-    let mut alike: usize = 0;
-    for row in rows {
-        if count_bools(*row) == count {
-            alike = alike.saturating_add(1);
-        }
-    }
-    alike
-}
-
-/// Whether a vector lies on the shelf for each row of so many items that one is sought; shorter rows need none. As few lie there, at most
-/// 65 rows are compared with all others.
-fn lie_ready_bools(shelf: &Shelf<bool>, rows: &[BoolRow<'_>]) -> bool
-    requires { All FitBools rows.now }
-{
-    for row in rows {
-        let count = count_bools(*row);
-        if count >= WORTH_A_SEARCH && shelf.full_ones(count) < alike_bools(rows, count) {
-            return false;
-        }
-    }
-    true
-}
-
 /// The rows of the parts, and how many of them make a chunk, if they go by chunks.
 fn chunked_bools<'a, P, K: BoolKernel<'a, P>>(
     execution: &impl Execution,
@@ -245,32 +220,8 @@ fn chunked_bools<'a, P, K: BoolKernel<'a, P>>(
         return None;
     }
     let rows = bool_rows(shelf.allocator(), kernel, parts)?;
-    let total = total_bools(&rows);
-    let pays = total >= WRITES_PAY && lie_ready_bools(shelf, &rows);
-    let size = joined_size(execution, meter, rows.len(), total, pays)?;
+    let size = rows_of_a_chunk(execution, shelf, meter, &rows)?;
     Some((rows, size))
-}
-
-/// A vector of as many items, which are to be written over.
-fn ready_bools(shelf: &mut Shelf<bool>, count: usize) -> Result<Vec<bool>, AllocError>
-    ensures long { IfOk result (λ v. length v.items ≡ count) }
-    ensures exact { IfOk result (λ v. IsExact v) }
-{
-    shelf.ready(false, count)
-}
-
-/// A vector for each row, with as many items.
-fn bool_lists(shelf: &mut Shelf<bool>, rows: &[BoolRow<'_>]) -> Result<Vec<Vec<bool>>, AllocError>
-    requires { All FitBools rows.now }
-    ensures long { IfOk result (λ lists. AreAsLong bools_of rows.now 0 lists.items) }
-    ensures count { IfOk result (λ lists. length lists.items ≡ length rows.now) }
-    ensures exact { IfOk result (λ lists. All IsExact lists.items) }
-{
-    let mut lists = Vec::with_capacity(shelf.allocator(), rows.len())?;
-    for row in rows {
-        lists.push_reserved(ready_bools(shelf, count_bools(*row))?);
-    }
-    Ok(lists)
 }
 
 /// The truth values of each row, in a vector of its own, by chunks of so many rows.
@@ -285,7 +236,7 @@ fn bool_lists_by_chunks(
     ensures items { IfOk result (λ made. parts_made made.items ≡ map bools_of rows.now) }
     ensures exact { IfOk result (λ made. All IsExact made.items) }
 {
-    let mut lists = bool_lists(shelf, rows)?;
+    let mut lists = lists(shelf, rows)?;
     execution.write_each_bools(rows, size, &mut lists);
     Ok(lists)
 }
@@ -305,9 +256,8 @@ pub fn run_joined_bools<'a, P, K: BoolKernel<'a, P>>(
     ensures counted { CountsRun result meter.old meter.new }
 {
     let made = match chunked_bools(execution, shelf, meter, kernel, parts) {
-        Some((rows, size)) => bool_lists_by_chunks(execution, shelf, &rows, size)?,
-        None => kernel.run_each(shelf, parts)?,
+        Some((rows, size)) => bool_lists_by_chunks(execution, shelf, &rows, size),
+        None => kernel.run_each(shelf, parts),
     };
-    meter.raise();
-    Ok(made)
+    meter.count(made)
 }

@@ -57,9 +57,8 @@ pub fn run_joined<P, K: JoinedKernel<P>>(
     ensures exact { IfOk result (λ made. All IsExact made.items) }
     ensures counted { CountsRun result meter.old meter.new }
 {
-    let made = kernel.run_each(&mut Shelf::new(alloc), parts)?;
-    meter.raise();
-    Ok(made)
+    let made = kernel.run_each(&mut Shelf::new(alloc), parts);
+    meter.count(made)
 }
 
 /// The results of all parts, where the operation is chosen.

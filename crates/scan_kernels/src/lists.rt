@@ -5,6 +5,7 @@ ghost use Rattle.item_operations.specs.BooleanOps.{alter_b, apply_b};
 ghost use Rattle.item_operations.specs.IntegerOps.{IsAllowed, alter_z, apply_z, compares};
 ghost use Rattle.scan_kernels.specs.Elementwise.{as_number, is_true, item_by_item, selected};
 
+use crate::copies::clone_by_copy;
 use crate::placewise::Placewise;
 use item_operations::{B1, B2, Cmp, Z1, Z2};
 
@@ -191,12 +192,14 @@ fn as_number(x: bool) -> i64
 }
 
 /// At each place the item of the first vector where the flag is set, else that of the second. All three have one length.
-#[derive(Clone, Copy)]
+#[derive(Copy)]
 pub struct Selected<'a, T> {
     pub flags: &'a [bool],
     pub set: &'a [T],
     pub unset: &'a [T],
 }
+
+clone_by_copy!(<T> Selected<'_, T>);
 
 impl<T: Copy> Placewise<T> for Selected<'_, T> {
     ghost Fits = { λ l. (length l.flags.now ≡ length l.set.now) × (length l.flags.now ≡ length l.unset.now) };

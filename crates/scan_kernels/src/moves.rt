@@ -5,15 +5,18 @@ ghost use Rattle.scan_kernels.specs.Gathered.{gathered};
 ghost use Rattle.scan_kernels.specs.Indices.{HoldsEachPlaceOnce, IsPlaceOf};
 ghost use Rattle.scan_kernels.specs.Permuted.{permuted};
 
+use crate::copies::clone_by_copy;
 use crate::place::place_of;
 use crate::placewise::Placewise;
 
 /// For each index in order the item at its place. Each index is a place of the items.
-#[derive(Clone, Copy)]
+#[derive(Copy)]
 pub struct Gathered<'a, T> {
     pub items: &'a [T],
     pub index: &'a [i64],
 }
+
+clone_by_copy!(<T> Gathered<'_, T>);
 
 impl<T: Copy> Placewise<T> for Gathered<'_, T> {
     ghost Fits = { λ l. All (IsPlaceOf (length l.items.now)) l.index.now };
@@ -33,11 +36,13 @@ impl<T: Copy> Placewise<T> for Gathered<'_, T> {
 
 /// The item at place i goes to the place that the index holds at i. There are as many indices as items, and the index holds each
 /// of its places once.
-#[derive(Clone, Copy)]
+#[derive(Copy)]
 pub struct Permuted<'a, T> {
     pub items: &'a [T],
     pub index: &'a [i64],
 }
+
+clone_by_copy!(<T> Permuted<'_, T>);
 
 impl<T: Copy> Permuted<'_, T> {
     /// How many items there are.

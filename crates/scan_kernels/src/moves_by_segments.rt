@@ -7,6 +7,7 @@ ghost use Rattle.scan_kernels.specs.Gathered.{gathered, segmented_gather};
 ghost use Rattle.scan_kernels.specs.Indices.{LieWithin, PermuteSegments};
 ghost use Rattle.scan_kernels.specs.Permuted.{permuted, segmented_permute};
 
+use crate::copies::clone_by_copy;
 use crate::moves::{Gathered, Permuted};
 use crate::placewise::write_from;
 use crate::reductions::total;
@@ -14,13 +15,15 @@ use crate::segmentwise::{Segmentwise, segment_at};
 
 /// For each index in order the item at its place in the segment of the items that has the number of the index's own. Each index is
 /// a place of that segment.
-#[derive(Clone, Copy)]
+#[derive(Copy)]
 pub struct GatheredSegments<'a, T> {
     pub items: &'a [T],
     pub source: &'a [usize],
     pub index: &'a [i64],
     pub by: &'a [usize],
 }
+
+clone_by_copy!(<T> GatheredSegments<'_, T>);
 
 impl<T: Copy> Segmentwise<T> for GatheredSegments<'_, T> {
     ghost Fits = { λ l. (sum l.source.now ≡ length l.items.now) × (sum l.by.now ≡ length l.index.now) × (length l.source.now ≡ length l.by.now) × LieWithin l.source.now l.by.now l.index.now };
@@ -66,12 +69,14 @@ impl<T: Copy> Segmentwise<T> for GatheredSegments<'_, T> {
 
 /// In each segment, the item at place i goes to the place that the index holds at i. There are as many indices as items, and each
 /// segment of the index holds each of its places once.
-#[derive(Clone, Copy)]
+#[derive(Copy)]
 pub struct PermutedSegments<'a, T> {
     pub items: &'a [T],
     pub index: &'a [i64],
     pub lengths: &'a [usize],
 }
+
+clone_by_copy!(<T> PermutedSegments<'_, T>);
 
 impl<T: Copy> Segmentwise<T> for PermutedSegments<'_, T> {
     ghost Fits = { λ l. (length l.index.now ≡ length l.items.now) × (sum l.lengths.now ≡ length l.index.now) × PermuteSegments l.lengths.now l.index.now };

@@ -4,6 +4,7 @@ ghost use Rattle.std.specs.Prelude.{◌≡◌, ◌+◌, ◌<◌, ◌≤◌, leng
 ghost use Rattle.segment_desc.specs.Appended.{IsExact};
 ghost use Rattle.scan_kernels.specs.Packed.{number_set, packed};
 
+use crate::copies::clone_by_copy;
 use crate::in_order::end_of;
 use crate::set_flags::number_set;
 use crate::source::Source;
@@ -38,13 +39,15 @@ pub fn packed<T: Copy + Send + Sync>(
 }
 
 /// The items whose flag is set, where it is known how many flags are set.
-#[derive(Clone, Copy)]
+#[derive(Copy)]
 pub struct PackedWhole<'a, T> {
     pub items: &'a [T],
     pub flags: &'a [bool],
     /// How many flags are set.
     pub total: usize,
 }
+
+clone_by_copy!(<T> PackedWhole<'_, T>);
 
 impl<T: Copy> PackedWhole<'_, T> {
     /// How many items there are.

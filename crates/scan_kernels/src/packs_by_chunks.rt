@@ -8,6 +8,7 @@ ghost use Rattle.segment_desc.specs.Cut.{cut};
 ghost use Rattle.scan_kernels.specs.Packed.{each_number, number_set, numbers_set, packed};
 
 use crate::chunks::{MOST_CHUNKS, bools_by_chunks, ints_by_chunks, size_of_few};
+use crate::copies::clone_by_copy;
 use crate::execution::Execution;
 use crate::packs::write_packed;
 use crate::reductions::total;
@@ -19,7 +20,7 @@ use crate::source::Source;
 use std::alloc::AllocError;
 
 /// The items whose flag is set, where it is known how many flags are set in each segment that the operands are cut into.
-#[derive(Clone, Copy)]
+#[derive(Copy)]
 pub struct Packed<'a, T> {
     pub items: &'a [T],
     pub flags: &'a [bool],
@@ -28,6 +29,8 @@ pub struct Packed<'a, T> {
     /// How many flags are set.
     pub total: usize,
 }
+
+clone_by_copy!(<T> Packed<'_, T>);
 
 impl<T: Copy> Segmentwise<T> for Packed<'_, T> {
     ghost Fits = { λ l. (length l.flags.now ≡ length l.items.now) × (sum l.lengths.now ≡ length l.flags.now) × (l.numbers.now ≡ each_number l.lengths.now l.flags.now) × (l.total ≡ number_set l.flags.now) };
@@ -152,12 +155,12 @@ fn cut_pieces(execution: &impl Execution, flags: &[bool], size: usize) -> Pieces
     let mut lengths = [0; MOST_CHUNKS];
     let mut numbers = [0; MOST_CHUNKS];
     let mut set = [0; MOST_CHUNKS];
-    cut_evenly(flags.len(), piece, &mut lengths[..count]);
-    let total = number_pieces(
+    let total = cut_and_number(
         execution,
         flags,
-        &lengths[..count],
-        size.div_ceil(piece),
+        piece,
+        size,
+        &mut lengths[..count],
         &mut set[..count],
         &mut numbers[..count],
     );
@@ -167,6 +170,38 @@ fn cut_pieces(execution: &impl Execution, flags: &[bool], size: usize) -> Pieces
         count,
         total,
     }
+}
+
+/// Cuts flags into pieces of a size, as many as there are lengths, counts how many flags are set in each, in chunks of a size, and all
+/// together.
+fn cut_and_number(
+    execution: &impl Execution,
+    flags: &[bool],
+    piece: usize,
+    size: usize,
+    lengths: &mut [usize],
+    set: &mut [i64],
+    numbers: &mut [usize],
+) -> usize
+    requires piece { 0 < piece }
+    requires size { 0 < size }
+    requires begun { (k : ℕ) → k < length lengths.old → k * piece < length flags.now }
+    requires all { length flags.now ≤ length lengths.old * piece }
+    requires long { length set.old ≡ length lengths.old }
+    requires also { length numbers.old ≡ length lengths.old }
+    ensures cut { sum lengths.new ≡ length flags.now }
+    ensures numbers { numbers.new ≡ each_number lengths.new flags.now }
+    ensures total { result ≡ number_set flags.now }
+{
+    cut_evenly(flags.len(), piece, lengths);
+    number_pieces(
+        execution,
+        flags,
+        lengths,
+        size.div_ceil(piece),
+        set,
+        numbers,
+    )
 }
 
 /// Counts how many flags are set in each piece, so many pieces at once, and all together.

@@ -1,4 +1,6 @@
-use Rattle.std.proofs.Common.{arith, ◌++◌, take, drop, get_or, ap, sym, ◌∙◌}
+use Rattle.std.proofs.Common.{arith, ◌++◌, take, drop, sum, get_or, ap, subst, sym, ◌∙◌}
+use Rattle.std.proofs.lemmas.List.{take_all}
+use Rattle.segment_desc.specs.Appended.{Appends}
 use Rattle.scan_kernels.specs.Segmented.{scanned, segmented_scan}
 use Rattle.segment_desc.proofs.Appending.{appends_more}
 use Rattle.scan_kernels.proofs.Scanned.{length-scanned}
@@ -22,3 +24,15 @@ loop-length-preserved g c =
       made = appends_more c.loop-length.invariant.made c.scan_segment.ensures (ap (λ ys. done ++ scanned op u ys) segment ∙ sym more);
       long = omega arith;
     }
+
+pub returns-clause-scan : goal.returns-clause-scan
+returns-clause-scan g c =
+    let op = g.O.Combine.combined c.args.op in
+    let u = g.O.Combine.unit_of c.args.op in
+    let all = take_all c.loop-length.length-index c.args.lengths.now c.loop-length-test.false in
+    subst (λ ks. Appends c.args.made.now c.loop-length.made (segmented_scan op u ks c.args.items.now)) all c.loop-length.invariant.made
+
+pub returns-clause-rest : goal.returns-clause-rest
+returns-clause-rest g c =
+    let all = take_all c.loop-length.length-index c.args.lengths.now c.loop-length-test.false in
+    c.loop-length.invariant.rest ∙ ap (λ ks. drop (sum ks) c.args.items.now) all
