@@ -22,5 +22,5 @@ effects_of (mades.Truths xs) = map (λ x. Answers (BoolOf x)) xs.items
 
 -- the item is a call of this word, of which this comes
 abbrev pub IsItem : Item → Word → Option (Result Effect Fault) → Type 0
-IsItem (items.Judged judged) word work = (word_of judged ≡ word) × IsReady judged × (work ≡ Some (Ok (made judged)))
+IsItem (items.Judged judged) word work = (word_of judged.now ≡ word) × IsReady judged.now × (work ≡ Some (Ok (made judged.now)))
 IsItem (items.Call memory call) word work = ((task_of call.now).word ≡ word) × (work ≡ Some (work_on memory.now (task_of call.now)))

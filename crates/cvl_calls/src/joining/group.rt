@@ -15,7 +15,7 @@ use vector_memory::Memory;
 #[derive(Clone, Copy)]
 pub enum Item<'a> {
     /// What is left to be done of a call that was judged before.
-    Judged(Judged<'a>),
+    Judged(&'a Judged<'a>),
     /// A call that is judged on a memory when a joined kernel takes its operands.
     Call(&'a Memory, &'a Call),
 }
@@ -66,7 +66,7 @@ impl Group for AllJudged<'_> {
 
     fn item(&self, place: usize) -> Option<Item<'_>> {
         let judged = self.group.get(place)?;
-        Some(Item::Judged(*judged))
+        Some(Item::Judged(judged))
     }
 
     fn is_again(&self, _place: usize) -> bool {

@@ -70,7 +70,7 @@ pub(crate) fn part_at<'a, P: Copy, T: Stored, K: Joins<'a, P, T>, G: Group>(
     ensures fault { (fault : Fault) → result ≡ Err (Stop.Fault fault) → slice_get (G.works group.now) place ≡ Some (Err fault) }
 {
     match group.item(place) {
-        Some(Item::Judged(judged)) => Ok(kernel.part(&judged)),
+        Some(Item::Judged(judged)) => Ok(kernel.part(judged)),
         Some(Item::Call(memory, call)) => {
             let judge = Judge {
                 execution,

@@ -61,7 +61,7 @@ fn ints_at<'a, G: Group>(op: ScanZ, group: &'a G, place: usize) -> Result<&'a [i
     ensures fault { (fault : Fault) → result ≡ Err (Stop.Fault fault) → slice_get (G.works group.now) place ≡ Some (Err fault) }
 {
     let judged = match group.item(place) {
-        Some(Item::Judged(judged)) => judged,
+        Some(Item::Judged(judged)) => *judged,
         Some(Item::Call(memory, Call::RedZ { op, a })) => reduce_ints(memory, *op, a)?,
         Some(Item::Call(_, _)) => unreachable!(),
         None => return Err(Stop::OutOfMemory),
@@ -140,7 +140,7 @@ fn bools_at<'a, G: Group>(op: ScanB, group: &'a G, place: usize) -> Result<&'a [
     ensures fault { (fault : Fault) → result ≡ Err (Stop.Fault fault) → slice_get (G.works group.now) place ≡ Some (Err fault) }
 {
     let judged = match group.item(place) {
-        Some(Item::Judged(judged)) => judged,
+        Some(Item::Judged(judged)) => *judged,
         Some(Item::Call(memory, Call::RedB { op, a })) => reduce_bools(memory, *op, a)?,
         Some(Item::Call(_, _)) => unreachable!(),
         None => return Err(Stop::OutOfMemory),

@@ -19,7 +19,7 @@ use vector_memory::{Memory, Name};
 
 #[tactic(auto, unfolding(crate::specs::Work::repeat))]
 #[inline(always)]
-pub(crate) fn repeat_int(limit: usize, x: i64, n: i64) -> Result<Judged<'static>, Fault>
+pub(crate) fn repeat_int<'a>(limit: usize, x: i64, n: i64) -> Result<Judged<'a>, Fault>
     ensures { Judges words.DisZ (repeat limit integers (NumberGiven x) (NumberGiven n)) result }
 {
     Ok(Judged::RepeatInt(x, count(limit, n)?))
@@ -27,7 +27,7 @@ pub(crate) fn repeat_int(limit: usize, x: i64, n: i64) -> Result<Judged<'static>
 
 #[tactic(auto, unfolding(crate::specs::Work::repeat))]
 #[inline(always)]
-pub(crate) fn repeat_bool(limit: usize, x: bool, n: i64) -> Result<Judged<'static>, Fault>
+pub(crate) fn repeat_bool<'a>(limit: usize, x: bool, n: i64) -> Result<Judged<'a>, Fault>
     ensures { Judges words.DisB (repeat limit truths (TruthGiven x) (NumberGiven n)) result }
 {
     Ok(Judged::RepeatBool(x, count(limit, n)?))
@@ -51,7 +51,7 @@ pub(crate) fn distribute<'a>(
 
 #[tactic(auto, unfolding(crate::specs::Work::index))]
 #[inline(always)]
-pub(crate) fn index(limit: usize, u: i64, v: i64, n: i64) -> Result<Judged<'static>, Fault>
+pub(crate) fn index<'a>(limit: usize, u: i64, v: i64, n: i64) -> Result<Judged<'a>, Fault>
     requires { limit ≤ most }
     ensures { Judges words.Ind (index limit (NumberGiven u) (NumberGiven v) (NumberGiven n)) result }
 {

@@ -42,7 +42,7 @@ pub(crate) fn free<'a>(memory: &'a Memory, a: &Name) -> Result<Judged<'a>, Fault
 
 #[tactic(auto, unfolding(crate::specs::Work::alo))]
 #[inline(always)]
-pub(crate) fn alo(limit: usize, n: i64) -> Result<Judged<'static>, Fault>
+pub(crate) fn alo<'a>(limit: usize, n: i64) -> Result<Judged<'a>, Fault>
     ensures { Judges words.Alo (alo limit (NumberGiven n)) result }
 {
     Ok(Judged::Alo(count(limit, n)?))
