@@ -43,11 +43,12 @@ pub fn back_permute_z(
                 index,
                 by,
             });
-            ints_by_chunks(execution, alloc, row, size)
+            ints_by_chunks(execution, alloc, row, size)?
         }
-        None => gather_each(alloc, items, source, index, by),
+        None => gather_each(alloc, items, source, index, by)?,
     };
-    meter.count(made)
+    meter.raise();
+    Ok(made)
 }
 
 /// The same for truth values.
@@ -77,11 +78,12 @@ pub fn back_permute_b(
                 index,
                 by,
             });
-            bools_by_chunks(execution, alloc, row, size)
+            bools_by_chunks(execution, alloc, row, size)?
         }
-        None => gather_each(alloc, flags, source, index, by),
+        None => gather_each(alloc, flags, source, index, by)?,
     };
-    meter.count(made)
+    meter.raise();
+    Ok(made)
 }
 
 pub(crate) fn gather_each<T: Copy + Send + Sync>(

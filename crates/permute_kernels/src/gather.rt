@@ -30,11 +30,12 @@ pub fn gather_z(
     let made = match gather_size(execution, meter, index.len()) {
         Some(size) => {
             let row = IntRow::Gathered(Gathered { items, index });
-            ints_by_pieces(execution, alloc, row, size)
+            ints_by_pieces(execution, alloc, row, size)?
         }
-        None => gathered(alloc, items, index),
+        None => gathered(alloc, items, index)?,
     };
-    meter.count(made)
+    meter.raise();
+    Ok(made)
 }
 
 /// The same for truth values.
@@ -56,11 +57,12 @@ pub fn gather_b(
                 items: flags,
                 index,
             });
-            bools_by_chunks(execution, alloc, row, size)
+            bools_by_chunks(execution, alloc, row, size)?
         }
-        None => gathered(alloc, flags, index),
+        None => gathered(alloc, flags, index)?,
     };
-    meter.count(made)
+    meter.raise();
+    Ok(made)
 }
 
 #[inline(never)]

@@ -27,10 +27,11 @@ pub fn pack_z(
     ensures counted { CountsRun result meter.old meter.new }
 {
     let made = match pack_size(execution, meter, items.len()) {
-        Some(size) => packed_ints_by_chunks(execution, alloc, items, flags, size),
-        None => packed_ints(alloc, items, flags),
+        Some(size) => packed_ints_by_chunks(execution, alloc, items, flags, size)?,
+        None => packed_ints(alloc, items, flags)?,
     };
-    meter.count(made)
+    meter.raise();
+    Ok(made)
 }
 
 /// The same for truth values.
@@ -47,10 +48,11 @@ pub fn pack_b(
     ensures counted { CountsRun result meter.old meter.new }
 {
     let made = match pack_size(execution, meter, truths.len()) {
-        Some(size) => packed_bools_by_chunks(execution, alloc, truths, flags, size),
-        None => packed_bools(alloc, truths, flags),
+        Some(size) => packed_bools_by_chunks(execution, alloc, truths, flags, size)?,
+        None => packed_bools(alloc, truths, flags)?,
     };
-    meter.count(made)
+    meter.raise();
+    Ok(made)
 }
 
 // Apart from what goes by chunks, so that the loop is built alike for each policy, over a buffer of a known size.
@@ -97,9 +99,10 @@ pub fn packed_lengths(
     let made = match segments_size(execution, meter, lengths.len(), flags.len()) {
         Some(size) => {
             let row = IntRow::SetNumbers(SetNumbers { flags, lengths });
-            ints_by_chunks(execution, alloc, row, size)
+            ints_by_chunks(execution, alloc, row, size)?
         }
-        None => set_numbers(alloc, flags, lengths),
+        None => set_numbers(alloc, flags, lengths)?,
     };
-    meter.count(made)
+    meter.raise();
+    Ok(made)
 }

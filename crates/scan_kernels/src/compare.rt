@@ -40,11 +40,12 @@ pub fn compare2(
                 left: a,
                 right: b,
             });
-            bools_by_chunks(execution, alloc, row, size)
+            bools_by_chunks(execution, alloc, row, size)?
         }
-        None => by_comparison!(op, compared(alloc, op, a, b)),
+        None => by_comparison!(op, compared(alloc, op, a, b)?),
     };
-    meter.count(made)
+    meter.raise();
+    Ok(made)
 }
 
 // Inlined, so that the loop is built for each comparison that a caller names.

@@ -29,11 +29,12 @@ pub fn truth(
     let made = match write_size(execution, &alloc, meter, a.len()) {
         Some(size) => {
             let row = BoolRow::Truths(Truths { items: a });
-            bools_by_chunks(execution, alloc, row, size)
+            bools_by_chunks(execution, alloc, row, size)?
         }
-        None => truths(alloc, a),
+        None => truths(alloc, a)?,
     };
-    meter.count(made)
+    meter.raise();
+    Ok(made)
 }
 
 pub(crate) fn truths(alloc: impl Source<bool>, a: &[i64]) -> Result<Vec<bool>, AllocError>
@@ -57,11 +58,12 @@ pub fn number(
     let made = match write_size(execution, &alloc, meter, a.len()) {
         Some(size) => {
             let row = IntRow::Numbers(Numbers { items: a });
-            ints_by_chunks(execution, alloc, row, size)
+            ints_by_chunks(execution, alloc, row, size)?
         }
-        None => numbers(alloc, a),
+        None => numbers(alloc, a)?,
     };
-    meter.count(made)
+    meter.raise();
+    Ok(made)
 }
 
 pub(crate) fn numbers(alloc: impl Source<i64>, a: &[bool]) -> Result<Vec<i64>, AllocError>

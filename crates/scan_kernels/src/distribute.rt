@@ -38,11 +38,12 @@ pub fn distribute_z(
                 lengths,
                 total,
             });
-            ints_by_chunks(execution, alloc, row, size)
+            ints_by_chunks(execution, alloc, row, size)?
         }
-        None => distribute(alloc, values, lengths, total),
+        None => distribute(alloc, values, lengths, total)?,
     };
-    meter.count(made)
+    meter.raise();
+    Ok(made)
 }
 
 /// Truth value j as often as segment j is long, in one pass into a vector of its final size. There are as many truth
@@ -67,11 +68,12 @@ pub fn distribute_b(
                 lengths,
                 total,
             });
-            bools_by_chunks(execution, alloc, row, size)
+            bools_by_chunks(execution, alloc, row, size)?
         }
-        None => distribute(alloc, flags, lengths, total),
+        None => distribute(alloc, flags, lengths, total)?,
     };
-    meter.count(made)
+    meter.raise();
+    Ok(made)
 }
 
 pub(crate) fn distribute<T: Copy + Send + Sync>(

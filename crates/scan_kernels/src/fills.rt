@@ -4,9 +4,9 @@ ghost use Rattle.std.specs.Prelude.{◌≡◌, ◌≤◌, Some, replicate, slice
 ghost use Rattle.segment_desc.specs.Lengths.{most};
 ghost use Rattle.scan_kernels.specs.Indexed.{indexed};
 
-use crate::copies::clone_by_copy;
 use crate::indices::index_at;
 use crate::placewise::Placewise;
+use std::alloc::AllocError;
 
 /// An item so many times.
 #[derive(Copy)]
@@ -15,7 +15,12 @@ pub struct Repeated<T> {
     pub count: usize,
 }
 
-clone_by_copy!(<T> Repeated<T>);
+// By hand, since a derived clone goes field by field, which takes the prover as long as a kernel.
+impl<T: Copy> Clone for Repeated<T> {
+    fn clone(&self) -> Result<Self, AllocError> {
+        Ok(*self)
+    }
+}
 
 impl<T: Copy> Placewise<T> for Repeated<T> {
     ghost Fits = { λ l. Unit {0} };

@@ -7,10 +7,10 @@ ghost use Rattle.segment_desc.specs.Lengths.{IsWithinLimits};
 ghost use Rattle.scan_kernels.specs.Distributed.{distributed};
 ghost use Rattle.scan_kernels.specs.Indexed.{indexed, segmented_index};
 
-use crate::copies::clone_by_copy;
 use crate::fills::{Repeated, Rising};
 use crate::placewise::write_from;
 use crate::segmentwise::Segmentwise;
+use std::alloc::AllocError;
 
 /// Each value as often as its segment is long. There are as many values as segments.
 #[derive(Copy)]
@@ -21,7 +21,12 @@ pub struct Distributed<'a, T> {
     pub total: usize,
 }
 
-clone_by_copy!(<T> Distributed<'_, T>);
+// By hand, since a derived clone goes field by field, which takes the prover as long as a kernel.
+impl<T: Copy> Clone for Distributed<'_, T> {
+    fn clone(&self) -> Result<Self, AllocError> {
+        Ok(*self)
+    }
+}
 
 impl<T: Copy> Segmentwise<T> for Distributed<'_, T> {
     ghost Fits = { λ l. (length l.lengths.now ≡ length l.values.now) × (l.total ≡ sum l.lengths.now) };

@@ -42,11 +42,12 @@ pub fn index(
                 lengths,
                 total,
             });
-            ints_by_chunks(execution, alloc, row, size)
+            ints_by_chunks(execution, alloc, row, size)?
         }
-        None => index_each(alloc, starts, strides, lengths, total),
+        None => index_each(alloc, starts, strides, lengths, total)?,
     };
-    meter.count(made)
+    meter.raise();
+    Ok(made)
 }
 
 pub(crate) fn index_each(

@@ -180,10 +180,11 @@ pub fn run_joined_ints<'a, P, K: IntKernel<'a, P>>(
     ensures counted { CountsRun result meter.old meter.new }
 {
     let made = match chunked_ints(execution, shelf, meter, kernel, parts) {
-        Some((rows, size)) => int_lists_by_chunks(execution, shelf, &rows, size),
-        None => kernel.run_each(shelf, parts),
+        Some((rows, size)) => int_lists_by_chunks(execution, shelf, &rows, size)?,
+        None => kernel.run_each(shelf, parts)?,
     };
-    meter.count(made)
+    meter.raise();
+    Ok(made)
 }
 
 /// The results of all parts as rows, if there is memory for their list.
@@ -256,8 +257,9 @@ pub fn run_joined_bools<'a, P, K: BoolKernel<'a, P>>(
     ensures counted { CountsRun result meter.old meter.new }
 {
     let made = match chunked_bools(execution, shelf, meter, kernel, parts) {
-        Some((rows, size)) => bool_lists_by_chunks(execution, shelf, &rows, size),
-        None => kernel.run_each(shelf, parts),
+        Some((rows, size)) => bool_lists_by_chunks(execution, shelf, &rows, size)?,
+        None => kernel.run_each(shelf, parts)?,
     };
-    meter.count(made)
+    meter.raise();
+    Ok(made)
 }

@@ -57,8 +57,9 @@ pub fn run_joined<P, K: JoinedKernel<P>>(
     ensures exact { IfOk result (λ made. All IsExact made.items) }
     ensures counted { CountsRun result meter.old meter.new }
 {
-    let made = kernel.run_each(&mut Shelf::new(alloc), parts);
-    meter.count(made)
+    let made = kernel.run_each(&mut Shelf::new(alloc), parts)?;
+    meter.raise();
+    Ok(made)
 }
 
 /// The results of all parts, where the operation is chosen.

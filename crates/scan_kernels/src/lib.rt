@@ -12,7 +12,6 @@ mod chunks_within;
 mod compare;
 mod conditions;
 mod convert;
-mod copies;
 mod counted;
 mod distribute;
 mod edges;

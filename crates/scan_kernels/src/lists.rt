@@ -5,9 +5,9 @@ ghost use Rattle.item_operations.specs.BooleanOps.{alter_b, apply_b};
 ghost use Rattle.item_operations.specs.IntegerOps.{IsAllowed, alter_z, apply_z, compares};
 ghost use Rattle.scan_kernels.specs.Elementwise.{as_number, is_true, item_by_item, selected};
 
-use crate::copies::clone_by_copy;
 use crate::placewise::Placewise;
 use item_operations::{B1, B2, Cmp, Z1, Z2};
+use std::alloc::AllocError;
 
 /// The operation on each integer.
 #[derive(Clone, Copy)]
@@ -199,7 +199,12 @@ pub struct Selected<'a, T> {
     pub unset: &'a [T],
 }
 
-clone_by_copy!(<T> Selected<'_, T>);
+// By hand, since a derived clone goes field by field, which takes the prover as long as a kernel.
+impl<T: Copy> Clone for Selected<'_, T> {
+    fn clone(&self) -> Result<Self, AllocError> {
+        Ok(*self)
+    }
+}
 
 impl<T: Copy> Placewise<T> for Selected<'_, T> {
     ghost Fits = { λ l. (length l.flags.now ≡ length l.set.now) × (length l.flags.now ≡ length l.unset.now) };

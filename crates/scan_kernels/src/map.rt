@@ -34,11 +34,12 @@ pub fn map1_z(
     let made = match write_size(execution, &alloc, meter, a.len()) {
         Some(size) => {
             let row = IntRow::Altered(AlteredInts { op, items: a });
-            ints_by_chunks(execution, alloc, row, size)
+            ints_by_chunks(execution, alloc, row, size)?
         }
-        None => by_z1!(op, altered_z(alloc, op, a)),
+        None => by_z1!(op, altered_z(alloc, op, a)?),
     };
-    meter.count(made)
+    meter.raise();
+    Ok(made)
 }
 
 #[inline(always)]
@@ -64,11 +65,12 @@ pub fn map1_b(
     let made = match write_size(execution, &alloc, meter, a.len()) {
         Some(size) => {
             let row = BoolRow::Altered(AlteredBools { op, items: a });
-            bools_by_chunks(execution, alloc, row, size)
+            bools_by_chunks(execution, alloc, row, size)?
         }
-        None => by_b1!(op, altered_b(alloc, op, a)),
+        None => by_b1!(op, altered_b(alloc, op, a)?),
     };
-    meter.count(made)
+    meter.raise();
+    Ok(made)
 }
 
 #[inline(always)]
@@ -106,11 +108,12 @@ pub fn map2_z(
                 left: a,
                 right: b,
             });
-            ints_by_chunks(execution, alloc, row, size)
+            ints_by_chunks(execution, alloc, row, size)?
         }
-        None => chosen_z(alloc, op, a, b),
+        None => chosen_z(alloc, op, a, b)?,
     };
-    meter.count(made)
+    meter.raise();
+    Ok(made)
 }
 
 fn chosen_z(alloc: impl Source<i64>, op: Z2, a: &[i64], b: &[i64]) -> Result<Vec<i64>, AllocError>
@@ -164,11 +167,12 @@ pub fn map2_b(
                 left: a,
                 right: b,
             });
-            bools_by_chunks(execution, alloc, row, size)
+            bools_by_chunks(execution, alloc, row, size)?
         }
-        None => by_b2!(op, applied_b(alloc, op, a, b)),
+        None => by_b2!(op, applied_b(alloc, op, a, b)?),
     };
-    meter.count(made)
+    meter.raise();
+    Ok(made)
 }
 
 #[inline(always)]

@@ -1,8 +1,6 @@
 ghost use Rattle.std.specs.Prelude.{◌≡◌, ◌≤◌};
-ghost use Rattle.scan_kernels.specs.Metering.{CountsRun, IsSameMade, raised};
+ghost use Rattle.scan_kernels.specs.Metering.{raised};
 
-use segment_desc::OutOfMemory;
-use std::alloc::AllocError;
 use std::marker::Model;
 
 /// How many items a chunk has where a meter is made without a number of its own.
@@ -62,16 +60,5 @@ impl Meter {
         ensures { self.new ≡ raised self.old }
     {
         self.runs = self.runs.saturating_add(1);
-    }
-
-    /// Counts the run that made a result. Where memory was wanted for that, none is counted.
-    #[inline(always)]
-    pub fn count<T: Drop>(&mut self, made: Result<T, AllocError>) -> Result<T, OutOfMemory>
-        ensures made { IsSameMade made result }
-        ensures counted { CountsRun result self.old self.new }
-    {
-        let made = made?;
-        self.raise();
-        Ok(made)
     }
 }

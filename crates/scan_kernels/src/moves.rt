@@ -5,9 +5,9 @@ ghost use Rattle.scan_kernels.specs.Gathered.{gathered};
 ghost use Rattle.scan_kernels.specs.Indices.{HoldsEachPlaceOnce, IsPlaceOf};
 ghost use Rattle.scan_kernels.specs.Permuted.{permuted};
 
-use crate::copies::clone_by_copy;
 use crate::place::place_of;
 use crate::placewise::Placewise;
+use std::alloc::AllocError;
 
 /// For each index in order the item at its place. Each index is a place of the items.
 #[derive(Copy)]
@@ -16,7 +16,12 @@ pub struct Gathered<'a, T> {
     pub index: &'a [i64],
 }
 
-clone_by_copy!(<T> Gathered<'_, T>);
+// By hand, since a derived clone goes field by field, which takes the prover as long as a kernel.
+impl<T: Copy> Clone for Gathered<'_, T> {
+    fn clone(&self) -> Result<Self, AllocError> {
+        Ok(*self)
+    }
+}
 
 impl<T: Copy> Placewise<T> for Gathered<'_, T> {
     ghost Fits = { λ l. All (IsPlaceOf (length l.items.now)) l.index.now };
@@ -42,7 +47,12 @@ pub struct Permuted<'a, T> {
     pub index: &'a [i64],
 }
 
-clone_by_copy!(<T> Permuted<'_, T>);
+// By hand, since a derived clone goes field by field, which takes the prover as long as a kernel.
+impl<T: Copy> Clone for Permuted<'_, T> {
+    fn clone(&self) -> Result<Self, AllocError> {
+        Ok(*self)
+    }
+}
 
 impl<T: Copy> Permuted<'_, T> {
     /// How many items there are.

@@ -7,11 +7,11 @@ ghost use Rattle.scan_kernels.specs.Gathered.{gathered, segmented_gather};
 ghost use Rattle.scan_kernels.specs.Indices.{LieWithin, PermuteSegments};
 ghost use Rattle.scan_kernels.specs.Permuted.{permuted, segmented_permute};
 
-use crate::copies::clone_by_copy;
 use crate::moves::{Gathered, Permuted};
 use crate::placewise::write_from;
 use crate::reductions::total;
 use crate::segmentwise::{Segmentwise, segment_at};
+use std::alloc::AllocError;
 
 /// For each index in order the item at its place in the segment of the items that has the number of the index's own. Each index is
 /// a place of that segment.
@@ -23,7 +23,12 @@ pub struct GatheredSegments<'a, T> {
     pub by: &'a [usize],
 }
 
-clone_by_copy!(<T> GatheredSegments<'_, T>);
+// By hand, since a derived clone goes field by field, which takes the prover as long as a kernel.
+impl<T: Copy> Clone for GatheredSegments<'_, T> {
+    fn clone(&self) -> Result<Self, AllocError> {
+        Ok(*self)
+    }
+}
 
 impl<T: Copy> Segmentwise<T> for GatheredSegments<'_, T> {
     ghost Fits = { λ l. (sum l.source.now ≡ length l.items.now) × (sum l.by.now ≡ length l.index.now) × (length l.source.now ≡ length l.by.now) × LieWithin l.source.now l.by.now l.index.now };
@@ -76,7 +81,12 @@ pub struct PermutedSegments<'a, T> {
     pub lengths: &'a [usize],
 }
 
-clone_by_copy!(<T> PermutedSegments<'_, T>);
+// By hand, since a derived clone goes field by field, which takes the prover as long as a kernel.
+impl<T: Copy> Clone for PermutedSegments<'_, T> {
+    fn clone(&self) -> Result<Self, AllocError> {
+        Ok(*self)
+    }
+}
 
 impl<T: Copy> Segmentwise<T> for PermutedSegments<'_, T> {
     ghost Fits = { λ l. (length l.index.now ≡ length l.items.now) × (sum l.lengths.now ≡ length l.index.now) × PermuteSegments l.lengths.now l.index.now };

@@ -4,7 +4,6 @@ ghost use Rattle.std.specs.Prelude.{◌≡◌, ◌+◌, ◌<◌, ◌≤◌, leng
 ghost use Rattle.segment_desc.specs.Appended.{IsExact};
 ghost use Rattle.scan_kernels.specs.Packed.{number_set, packed};
 
-use crate::copies::clone_by_copy;
 use crate::in_order::end_of;
 use crate::set_flags::number_set;
 use crate::source::Source;
@@ -47,7 +46,12 @@ pub struct PackedWhole<'a, T> {
     pub total: usize,
 }
 
-clone_by_copy!(<T> PackedWhole<'_, T>);
+// By hand, since a derived clone goes field by field, which takes the prover as long as a kernel.
+impl<T: Copy> Clone for PackedWhole<'_, T> {
+    fn clone(&self) -> Result<Self, AllocError> {
+        Ok(*self)
+    }
+}
 
 impl<T: Copy> PackedWhole<'_, T> {
     /// How many items there are.

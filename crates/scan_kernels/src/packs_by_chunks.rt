@@ -8,7 +8,6 @@ ghost use Rattle.segment_desc.specs.Cut.{cut};
 ghost use Rattle.scan_kernels.specs.Packed.{each_number, number_set, numbers_set, packed};
 
 use crate::chunks::{MOST_CHUNKS, bools_by_chunks, ints_by_chunks, size_of_few};
-use crate::copies::clone_by_copy;
 use crate::execution::Execution;
 use crate::packs::write_packed;
 use crate::reductions::total;
@@ -30,7 +29,12 @@ pub struct Packed<'a, T> {
     pub total: usize,
 }
 
-clone_by_copy!(<T> Packed<'_, T>);
+// By hand, since a derived clone goes field by field, which takes the prover as long as a kernel.
+impl<T: Copy> Clone for Packed<'_, T> {
+    fn clone(&self) -> Result<Self, AllocError> {
+        Ok(*self)
+    }
+}
 
 impl<T: Copy> Segmentwise<T> for Packed<'_, T> {
     ghost Fits = { λ l. (length l.flags.now ≡ length l.items.now) × (sum l.lengths.now ≡ length l.flags.now) × (l.numbers.now ≡ each_number l.lengths.now l.flags.now) × (l.total ≡ number_set l.flags.now) };

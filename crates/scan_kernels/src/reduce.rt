@@ -39,11 +39,12 @@ pub fn reduce_z(
     let made = match segments_size(execution, meter, lengths.len(), items.len()) {
         Some(size) => {
             let row = IntRow::Reduced(ReducedInts { op, items, lengths });
-            ints_by_chunks(execution, alloc, row, size)
+            ints_by_chunks(execution, alloc, row, size)?
         }
-        None => by_scan_z!(op, reduce(alloc, op, items, lengths)),
+        None => by_scan_z!(op, reduce(alloc, op, items, lengths)?),
     };
-    meter.count(made)
+    meter.raise();
+    Ok(made)
 }
 
 /// What the operation makes of each segment of truth values, in one pass into a vector with one item for each segment. The
@@ -65,11 +66,12 @@ pub fn reduce_b(
     let made = match segments_size(execution, meter, lengths.len(), items.len()) {
         Some(size) => {
             let row = BoolRow::Reduced(ReducedBools { op, items, lengths });
-            bools_by_chunks(execution, alloc, row, size)
+            bools_by_chunks(execution, alloc, row, size)?
         }
-        None => by_scan_b!(op, reduce(alloc, op, items, lengths)),
+        None => by_scan_b!(op, reduce(alloc, op, items, lengths)?),
     };
-    meter.count(made)
+    meter.raise();
+    Ok(made)
 }
 
 #[inline(always)]

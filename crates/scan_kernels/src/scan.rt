@@ -36,10 +36,11 @@ pub fn scan_z(
 {
     let lengths = segments.lengths();
     let made = match write_size(execution, &alloc, meter, items.len()) {
-        Some(size) => scan_ints_by_chunks(execution, alloc, op, items, lengths, size),
-        None => by_scan_z!(op, scan(alloc, op, items, lengths)),
+        Some(size) => scan_ints_by_chunks(execution, alloc, op, items, lengths, size)?,
+        None => by_scan_z!(op, scan(alloc, op, items, lengths)?),
     };
-    meter.count(made)
+    meter.raise();
+    Ok(made)
 }
 
 /// The exclusive scan of each segment of truth values, in one pass into a vector of its final size. The segments have all
@@ -59,10 +60,11 @@ pub fn scan_b(
 {
     let lengths = segments.lengths();
     let made = match write_size(execution, &alloc, meter, items.len()) {
-        Some(size) => scan_bools_by_chunks(execution, alloc, op, items, lengths, size),
-        None => by_scan_b!(op, scan(alloc, op, items, lengths)),
+        Some(size) => scan_bools_by_chunks(execution, alloc, op, items, lengths, size)?,
+        None => by_scan_b!(op, scan(alloc, op, items, lengths)?),
     };
-    meter.count(made)
+    meter.raise();
+    Ok(made)
 }
 
 #[inline(always)]

@@ -38,11 +38,12 @@ pub fn select_z(
                 set: a,
                 unset: b,
             });
-            ints_by_chunks(execution, alloc, row, size)
+            ints_by_chunks(execution, alloc, row, size)?
         }
-        None => chosen(alloc, flags, a, b),
+        None => chosen(alloc, flags, a, b)?,
     };
-    meter.count(made)
+    meter.raise();
+    Ok(made)
 }
 
 /// At each place the truth value of the first vector where the flag is set, else that of the second. All three have one
@@ -68,11 +69,12 @@ pub fn select_b(
                 set: a,
                 unset: b,
             });
-            bools_by_chunks(execution, alloc, row, size)
+            bools_by_chunks(execution, alloc, row, size)?
         }
-        None => chosen(alloc, flags, a, b),
+        None => chosen(alloc, flags, a, b)?,
     };
-    meter.count(made)
+    meter.raise();
+    Ok(made)
 }
 
 pub(crate) fn chosen<T: Copy + Send + Sync>(

@@ -41,10 +41,11 @@ pub fn scan_whole_z(
     ensures counted { CountsRun result meter.old meter.new }
 {
     let made = match write_size(execution, &alloc, meter, items.len()) {
-        Some(size) => scan_ints_by_chunks(execution, alloc, op, items, &[items.len()], size),
-        None => by_scan_z!(op, scan_whole(alloc, op, items)),
+        Some(size) => scan_ints_by_chunks(execution, alloc, op, items, &[items.len()], size)?,
+        None => by_scan_z!(op, scan_whole(alloc, op, items)?),
     };
-    meter.count(made)
+    meter.raise();
+    Ok(made)
 }
 
 /// The exclusive scan of all the truth values, in one pass into a vector of its final size.
@@ -61,10 +62,11 @@ pub fn scan_whole_b(
     ensures counted { CountsRun result meter.old meter.new }
 {
     let made = match write_size(execution, &alloc, meter, items.len()) {
-        Some(size) => scan_bools_by_chunks(execution, alloc, op, items, &[items.len()], size),
-        None => by_scan_b!(op, scan_whole(alloc, op, items)),
+        Some(size) => scan_bools_by_chunks(execution, alloc, op, items, &[items.len()], size)?,
+        None => by_scan_b!(op, scan_whole(alloc, op, items)?),
     };
-    meter.count(made)
+    meter.raise();
+    Ok(made)
 }
 
 #[inline(always)]
@@ -142,11 +144,12 @@ pub fn repeat_z(
     let made = match fill_size(execution, &alloc, meter, count) {
         Some(size) => {
             let row = IntRow::Repeated(Repeated { item, count });
-            ints_by_chunks(execution, alloc, row, size)
+            ints_by_chunks(execution, alloc, row, size)?
         }
-        None => repeated(alloc, item, count),
+        None => repeated(alloc, item, count)?,
     };
-    meter.count(made)
+    meter.raise();
+    Ok(made)
 }
 
 /// The truth value so many times, in one pass into a vector of its final size.
@@ -164,11 +167,12 @@ pub fn repeat_b(
     let made = match fill_size(execution, &alloc, meter, count) {
         Some(size) => {
             let row = BoolRow::Repeated(Repeated { item, count });
-            bools_by_chunks(execution, alloc, row, size)
+            bools_by_chunks(execution, alloc, row, size)?
         }
-        None => repeated(alloc, item, count),
+        None => repeated(alloc, item, count)?,
     };
-    meter.count(made)
+    meter.raise();
+    Ok(made)
 }
 
 #[inline(always)]
@@ -206,11 +210,12 @@ pub fn index_whole(
                 stride,
                 count,
             });
-            ints_by_chunks(execution, alloc, row, size)
+            ints_by_chunks(execution, alloc, row, size)?
         }
-        None => rising(alloc, start, stride, count),
+        None => rising(alloc, start, stride, count)?,
     };
-    meter.count(made)
+    meter.raise();
+    Ok(made)
 }
 
 #[inline(never)]
