@@ -74,10 +74,11 @@ impl Group for Asked<'_> {
     }
 
     #[inline(always)]
-    fn item(&self, place: usize) -> Option<Item<'_>> {
-        let request = self.requests.get(place)?;
-        let call = call_of(request)?;
-        Some(Item::Call(self.memory, call))
+    fn item(&self, place: usize) -> Item<'_> {
+        match call_of(&self.requests[place]) {
+            Some(call) => Item::Call(self.memory, call),
+            None => unreachable!(),
+        }
     }
 
     #[inline(always)]

@@ -23,7 +23,7 @@ use std::alloc::Global;
 use std::mem;
 
 /// How a call takes its turn.
-#[derive(Clone, Copy, Debug)]
+#[derive(Clone, Copy)]
 pub(crate) enum Turn {
     /// By itself, unless it is joined with others before.
     Open,

@@ -10,7 +10,7 @@ use cvl_text::{AskWord, Call, OneWord, TwoWord, call_of_ask, call_of_one, call_o
 use vector_memory::{Name, ShortName};
 
 /// A call as a history keeps it: by its names in one word each, or else the place where it lies whole.
-#[derive(Clone, Copy, Debug)]
+#[derive(Clone, Copy)]
 pub(crate) enum Kept {
     Ask {
         word: AskWord,

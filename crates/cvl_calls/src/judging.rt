@@ -16,7 +16,7 @@ use crate::shapes::scans::*;
 use crate::shapes::setting::*;
 use crate::shapes::spreads::*;
 use crate::shapes::values::*;
-use crate::stop::Stop;
+use crate::stop::{Stop, or_stop};
 use cvl_text::{Call, Fault, Kind};
 use scan_kernels::{Execution, Meter, Sequential};
 use segment_desc::OutOfMemory;
@@ -88,7 +88,7 @@ fn by_shape<'a>(
         Call::SmpSeg { kind, a, i, s, .. } => permute_segments(
             execution, alloc, meter, memory, *kind, a, i, s,
         ),
-        _ => Ok(judge_at_once(execution, meter, memory, call)?),
+        _ => or_stop(judge_at_once(execution, meter, memory, call)),
     }
 }
 

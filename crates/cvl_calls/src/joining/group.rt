@@ -1,6 +1,6 @@
 //! Calls of one word, of which a joined kernel takes the operands.
 
-ghost use Rattle.std.specs.Prelude.{◌≡◌, ◌+◌, ℕ, List, Ok, Result, length, map, slice_get, All, IfSome, IsTrue};
+ghost use Rattle.std.specs.Prelude.{◌≡◌, ◌+◌, ◌<◌, ℕ, List, Ok, Result, length, map, slice_get, All, IsTrue};
 ghost use Rattle.cvl_text.specs.declared.fault.Fault.{Fault};
 ghost use Rattle.cvl_text.specs.declared.word.Word.{Word};
 ghost use Rattle.cvl_calls.specs.Joined.{IsItem};
@@ -35,10 +35,11 @@ pub trait Group {
     fn count(&self) -> usize
         ensures { result ≡ length (works self.now) };
 
-    /// The call at a place, if there is one.
-    fn item(&self, place: usize) -> Option<Item<'_>>
-        requires { IsAlike self.now }
-        ensures { IfSome result (λ item. IsItem item (word self.now) (slice_get (works self.now) place)) };
+    /// The call at a place.
+    fn item(&self, place: usize) -> Item<'_>
+        requires alike { IsAlike self.now }
+        requires place { place < length (works self.now) }
+        ensures { IsItem result (word self.now) (slice_get (works self.now) place) };
 
     /// Whether the call at a place is known to read what the one before it reads, so that the same comes of both.
     fn is_again(&self, place: usize) -> bool
@@ -64,9 +65,8 @@ impl Group for AllJudged<'_> {
         self.group.len()
     }
 
-    fn item(&self, place: usize) -> Option<Item<'_>> {
-        let judged = self.group.get(place)?;
-        Some(Item::Judged(judged))
+    fn item(&self, place: usize) -> Item<'_> {
+        Item::Judged(&self.group[place])
     }
 
     fn is_again(&self, _place: usize) -> bool {

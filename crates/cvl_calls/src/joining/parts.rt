@@ -1,6 +1,6 @@
 //! The operands of the calls of a group, as a joined kernel takes them.
 
-ghost use Rattle.std.specs.Prelude.{◌≡◌, ◌≤◌, ℕ, Err, Ok, Some, length, map, slice_get, take, All, IfOk, OnOk};
+ghost use Rattle.std.specs.Prelude.{◌≡◌, ◌<◌, ◌≤◌, ℕ, Err, Ok, Some, length, map, slice_get, take, All, IfOk, OnOk};
 ghost use Rattle.std.specs.Thread.{IsSync};
 ghost use Rattle.cvl_text.specs.declared.fault.Fault.{Fault};
 ghost use Rattle.cvl_text.specs.declared.word.Word.{Word};
@@ -65,13 +65,14 @@ pub(crate) fn part_at<'a, P: Copy, T: Stored, K: Joins<'a, P, T>, G: Group>(
 ) -> Result<P, Stop>
     requires alike { G.IsAlike group.now }
     requires word { G.word group.now ≡ K.word kernel }
+    requires place { place < length (G.works group.now) }
     ensures takes { IfOk result (K.Takes kernel) }
     ensures makes { IfOk result (λ part. slice_get (G.works group.now) place ≡ Some (Ok (Stores (T.content (K.makes kernel part))))) }
     ensures fault { (fault : Fault) → result ≡ Err (Stop.Fault fault) → slice_get (G.works group.now) place ≡ Some (Err fault) }
 {
     match group.item(place) {
-        Some(Item::Judged(judged)) => Ok(kernel.part(judged)),
-        Some(Item::Call(memory, call)) => {
+        Item::Judged(judged) => Ok(kernel.part(judged)),
+        Item::Call(memory, call) => {
             let judge = Judge {
                 execution,
                 alloc,
@@ -81,7 +82,6 @@ pub(crate) fn part_at<'a, P: Copy, T: Stored, K: Joins<'a, P, T>, G: Group>(
             let judged = kernel.judged(&judge, call)?;
             Ok(kernel.part(&judged))
         }
-        None => Err(Stop::OutOfMemory),
     }
 }
 
@@ -98,7 +98,8 @@ fn next_part<'a, P: Copy, T: Stored, K: Joins<'a, P, T>, G: Group>(
 ) -> Result<P, Stop>
     requires alike { G.IsAlike group.now }
     requires word { G.word group.now ≡ K.word kernel }
-    requires place { place ≡ length before.now }
+    requires place { place < length (G.works group.now) }
+    requires behind { place ≡ length before.now }
     requires taken { All (K.Takes kernel) before.now }
     requires made { map (λ part. Ok (Stores (T.content (K.makes kernel part)))) before.now ≡ take place (G.works group.now) }
     ensures takes { IfOk result (K.Takes kernel) }

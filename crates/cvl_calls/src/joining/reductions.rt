@@ -1,6 +1,6 @@
 //! Reductions of all items, of which each is a reply.
 
-ghost use Rattle.std.specs.Prelude.{◌≡◌, ◌≤◌, ℕ, Err, Ok, Some, length, map, slice_get, take, IfOk, OnOk};
+ghost use Rattle.std.specs.Prelude.{◌≡◌, ◌<◌, ◌≤◌, ℕ, Err, Ok, Some, length, map, slice_get, take, IfErr, IfOk, OnOk};
 ghost use Rattle.item_operations.specs.BooleanScans.{combine_b, unit_b};
 ghost use Rattle.item_operations.specs.IntegerScans.{combine_z, unit_z};
 ghost use Rattle.cvl_text.specs.declared.fault.Fault.{Fault};
@@ -10,6 +10,7 @@ ghost use Rattle.cvl_text.specs.Answers.{BoolOf, IntOf};
 ghost use Rattle.cvl_text.specs.declared.word.AskWord.TheVariants as asks;
 ghost use Rattle.cvl_text.specs.declared.word.Word.TheVariants as words;
 ghost use Rattle.cvl_calls.specs.Joined.{effects_of};
+ghost use Rattle.cvl_calls.specs.Judging.{made, word_of};
 ghost use Rattle.cvl_calls.specs.Outcomes.{Answers};
 
 use crate::joining::few::{FEW, Few, are_few};
@@ -40,16 +41,33 @@ pub(crate) fn reduced_ints<'a, G: Group>(
     ensures fault { (fault : Fault) → result ≡ Err (Stop.Fault fault) → (place : ℕ) × (slice_get (G.works group.now) place ≡ Some (Err fault)) }
     ensures counted { CountsRun result meter.old meter.new }
 {
-    let kept = Kept::new(shelves.take_numbers(alloc));
     if are_few(group.count()) {
         let mut parts = Few::of(ints_at(op, group, 0)?);
         put_ints(op, group, &mut parts)?;
         let few = parts.as_slice();
-        *made = Made::Numbers(reduce_whole_z_joined(execution, kept, meter, op, few)?);
-        return Ok(());
+        return int_replies(execution, alloc, meter, shelves, op, few, made);
     }
     let parts = ints_of(alloc, op, group)?;
-    *made = Made::Numbers(reduce_whole_z_joined(execution, kept, meter, op, &parts)?);
+    int_replies(execution, alloc, meter, shelves, op, &parts, made)
+}
+
+/// Lists of integers, each as one, by one kernel run. The result takes a vector that was kept.
+#[inline(always)]
+fn int_replies(
+    execution: &impl Execution,
+    alloc: Global,
+    meter: &mut Meter,
+    shelves: &mut Shelves,
+    op: ScanZ,
+    parts: &[&[i64]],
+    made: &mut Made,
+) -> Result<(), Stop>
+    ensures makes { OnOk result (effects_of made.new ≡ map (λ p. Answers (IntOf (reduced (combine_z op) (unit_z op) p.now))) parts.now) }
+    ensures memory { IfErr result (λ stop. stop ≡ Stop.OutOfMemory) }
+    ensures counted { CountsRun result meter.old meter.new }
+{
+    let kept = Kept::new(shelves.take_numbers(alloc));
+    *made = Made::Numbers(reduce_whole_z_joined(execution, kept, meter, op, parts)?);
     Ok(())
 }
 
@@ -57,17 +75,24 @@ pub(crate) fn reduced_ints<'a, G: Group>(
 fn ints_at<'a, G: Group>(op: ScanZ, group: &'a G, place: usize) -> Result<&'a [i64], Stop>
     requires alike { G.IsAlike group.now }
     requires word { G.word group.now ≡ words.Ask (asks.RedZ op) }
+    requires place { place < length (G.works group.now) }
     ensures makes { IfOk result (λ p. slice_get (G.works group.now) place ≡ Some (Ok (Answers (IntOf (reduced (combine_z op) (unit_z op) p.now))))) }
     ensures fault { (fault : Fault) → result ≡ Err (Stop.Fault fault) → slice_get (G.works group.now) place ≡ Some (Err fault) }
 {
-    let judged = match group.item(place) {
-        Some(Item::Judged(judged)) => *judged,
-        Some(Item::Call(memory, Call::RedZ { op, a })) => reduce_ints(memory, *op, a)?,
-        Some(Item::Call(_, _)) => unreachable!(),
-        None => return Err(Stop::OutOfMemory),
-    };
+    match group.item(place) {
+        Item::Judged(judged) => Ok(ints_in(op, judged)),
+        Item::Call(memory, Call::RedZ { a, .. }) => Ok(ints_in(op, &reduce_ints(memory, op, a)?)),
+        Item::Call(_, _) => unreachable!(),
+    }
+}
+
+/// The integers of a call that was judged.
+fn ints_in<'a>(op: ScanZ, judged: &Judged<'a>) -> &'a [i64]
+    requires { word_of judged.now ≡ words.Ask (asks.RedZ op) }
+    ensures { made judged.now ≡ Answers (IntOf (reduced (combine_z op) (unit_z op) result.now)) }
+{
     match judged {
-        Judged::ReduceInts(_, xs) => Ok(xs),
+        Judged::ReduceInts(_, xs) => *xs,
         _ => unreachable!(),
     }
 }
@@ -119,16 +144,33 @@ pub(crate) fn reduced_bools<'a, G: Group>(
     ensures fault { (fault : Fault) → result ≡ Err (Stop.Fault fault) → (place : ℕ) × (slice_get (G.works group.now) place ≡ Some (Err fault)) }
     ensures counted { CountsRun result meter.old meter.new }
 {
-    let kept = Kept::new(shelves.take_truths(alloc));
     if are_few(group.count()) {
         let mut parts = Few::of(bools_at(op, group, 0)?);
         put_bools(op, group, &mut parts)?;
         let few = parts.as_slice();
-        *made = Made::Truths(reduce_whole_b_joined(execution, kept, meter, op, few)?);
-        return Ok(());
+        return bool_replies(execution, alloc, meter, shelves, op, few, made);
     }
     let parts = bools_of(alloc, op, group)?;
-    *made = Made::Truths(reduce_whole_b_joined(execution, kept, meter, op, &parts)?);
+    bool_replies(execution, alloc, meter, shelves, op, &parts, made)
+}
+
+/// Lists of truth values, each as one, by one kernel run. The result takes a vector that was kept.
+#[inline(always)]
+fn bool_replies(
+    execution: &impl Execution,
+    alloc: Global,
+    meter: &mut Meter,
+    shelves: &mut Shelves,
+    op: ScanB,
+    parts: &[&[bool]],
+    made: &mut Made,
+) -> Result<(), Stop>
+    ensures makes { OnOk result (effects_of made.new ≡ map (λ p. Answers (BoolOf (reduced (combine_b op) (unit_b op) p.now))) parts.now) }
+    ensures memory { IfErr result (λ stop. stop ≡ Stop.OutOfMemory) }
+    ensures counted { CountsRun result meter.old meter.new }
+{
+    let kept = Kept::new(shelves.take_truths(alloc));
+    *made = Made::Truths(reduce_whole_b_joined(execution, kept, meter, op, parts)?);
     Ok(())
 }
 
@@ -136,17 +178,24 @@ pub(crate) fn reduced_bools<'a, G: Group>(
 fn bools_at<'a, G: Group>(op: ScanB, group: &'a G, place: usize) -> Result<&'a [bool], Stop>
     requires alike { G.IsAlike group.now }
     requires word { G.word group.now ≡ words.Ask (asks.RedB op) }
+    requires place { place < length (G.works group.now) }
     ensures makes { IfOk result (λ p. slice_get (G.works group.now) place ≡ Some (Ok (Answers (BoolOf (reduced (combine_b op) (unit_b op) p.now))))) }
     ensures fault { (fault : Fault) → result ≡ Err (Stop.Fault fault) → slice_get (G.works group.now) place ≡ Some (Err fault) }
 {
-    let judged = match group.item(place) {
-        Some(Item::Judged(judged)) => *judged,
-        Some(Item::Call(memory, Call::RedB { op, a })) => reduce_bools(memory, *op, a)?,
-        Some(Item::Call(_, _)) => unreachable!(),
-        None => return Err(Stop::OutOfMemory),
-    };
+    match group.item(place) {
+        Item::Judged(judged) => Ok(bools_in(op, judged)),
+        Item::Call(memory, Call::RedB { a, .. }) => Ok(bools_in(op, &reduce_bools(memory, op, a)?)),
+        Item::Call(_, _) => unreachable!(),
+    }
+}
+
+/// The truth values of a call that was judged.
+fn bools_in<'a>(op: ScanB, judged: &Judged<'a>) -> &'a [bool]
+    requires { word_of judged.now ≡ words.Ask (asks.RedB op) }
+    ensures { made judged.now ≡ Answers (BoolOf (reduced (combine_b op) (unit_b op) result.now)) }
+{
     match judged {
-        Judged::ReduceBools(_, xs) => Ok(xs),
+        Judged::ReduceBools(_, xs) => *xs,
         _ => unreachable!(),
     }
 }

@@ -38,9 +38,8 @@ impl Group for CallsOn<'_> {
         self.calls.len()
     }
 
-    fn item(&self, place: usize) -> Option<Item<'_>> {
-        let call = self.calls.get(place)?;
-        Some(Item::Call(self.memory, *call))
+    fn item(&self, place: usize) -> Item<'_> {
+        Item::Call(self.memory, self.calls[place])
     }
 
     fn is_again(&self, _place: usize) -> bool {

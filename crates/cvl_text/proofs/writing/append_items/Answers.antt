@@ -4,6 +4,7 @@ use Rattle.std.specs.List.{flat_map}
 use Rattle.std.proofs.lemmas.List.{take_all, take_more}
 use Rattle.std.proofs.lemmas.List.Folds.{length-flat_map-take}
 use Rattle.std.proofs.lemmas.Grind.{flat_map-append}
+use Rattle.cvl_text.specs.Texts.{IsContinued}
 use Rattle.cvl_text.proofs.writing.append_items.Goals as goal
 
 OnErr-always : {A E : Type 0} (r : Result A E) (P : Type 0) → P → OnErr r P
@@ -50,3 +51,10 @@ pub returns-in_err-append-clause-full : goal.returns-in_err-append-clause-full
 returns-in_err-append-clause-full g c =
     OnErr-always _ _ (too_small g.I.WriteItem.item_text c.args.items.now c.item-item.result c.loop-item.item-index (vec_capacity c.args.out.now) (vec_capacity c.loop-item.out) (vec_len c.args.out.now) (vec_len c.loop-item.out)
     c.item-item.is c.loop-item-test.true c.loop-item.invariant.capacity c.loop-item.invariant.len c.in_err-append.ensures.full)
+
+pub returns-in_err-append-clause-err : goal.returns-in_err-append-clause-err
+returns-in_err-append-clause-err g c =
+    let so_far = flat_map g.I.WriteItem.item_text (take c.loop-item.item-index c.args.items.now) in
+    let more = c.in_err-append.ensures.err in
+    let continued : IsContinued c.args.out.now.items c.append.new.out.items = (so_far ++ more.0, more.1 ∙ ap (λ l. l ++ more.0) c.loop-item.invariant.made ∙ append_assoc c.args.out.now.items so_far more.0) in
+    OnErr-always _ _ continued

@@ -31,6 +31,9 @@ next_part-requires-sync-typeof-execution-Shared g c κs within =
     let f : g.row.P.Denot → Result Effect Fault = λ part. Ok (Stores (g.T.Stored.content (g.K.Kernel.makes c.args.kernel part))) in
     let same = c.deref.ensures.value in
     let inv = c.loop-place.invariant in
+    let low = c.loop-place-test.true in
+    let end = c.count-count.ensures in
+    let there : c.loop-place.place < length (g.G.Group.works c.args.group.now) = omega arith in
     let place : c.loop-place.place ≡ length c.deref.result.now = sym (c.deref.ensures.len ∙ inv.long) in
     let taken = subst (All (g.K.Kernel.Takes c.args.kernel)) (sym same) inv.takes in
-    (search rules, (search rules, (c.requires.alike, (c.requires.word, (place, (taken, ap (map f) same ∙ inv.makes))))))
+    (search rules, (search rules, (c.requires.alike, (c.requires.word, (there, (place, (taken, ap (map f) same ∙ inv.makes)))))))

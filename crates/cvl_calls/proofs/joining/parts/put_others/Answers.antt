@@ -11,9 +11,12 @@ next_part-requires-sync-typeof-execution-Shared g c κs within =
     let f : g.row.P.Denot → Result Effect Fault = λ part. Ok (Stores (g.T.Stored.content (g.K.Kernel.makes c.args.kernel part))) in
     let same = c.as_slice-before.ensures in
     let inv = c.loop-place.invariant in
+    let low = c.loop-place-test.true in
+    let end = c.count-place-end.ensures in
+    let there : c.loop-place.place < length (g.G.Group.works c.args.group.now) = omega arith in
     let place : c.loop-place.place ≡ length c.as_slice-before.result.now = sym (ap length same ∙ inv.long) in
     let taken = subst (All (g.K.Kernel.Takes c.args.kernel)) (sym same) inv.takes in
-    (search rules, (search rules, (c.requires.alike, (c.requires.word, (place, (taken, ap (map f) same ∙ inv.makes))))))
+    (search rules, (search rules, (c.requires.alike, (c.requires.word, (there, (place, (taken, ap (map f) same ∙ inv.makes)))))))
 
 pub loop-place-preserved : goal.loop-place-preserved
 loop-place-preserved g c =

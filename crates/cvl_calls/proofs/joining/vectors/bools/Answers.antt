@@ -7,6 +7,11 @@ use Rattle.cvl_calls.specs.Outcomes.{Effect, Stores}
 use Rattle.cvl_calls.proofs.Joined.{effects-made, made-first}
 use Rattle.cvl_calls.proofs.joining.vectors.bools.Goals as goal
 
+pub part_at-requires-sync-typeof-execution-Shared : goal.part_at-requires-sync-typeof-execution-Shared
+part_at-requires-sync-typeof-execution-Shared g c κs within =
+    let some = subst (λ n. 0 < n) c.count.ensures (c.are_few.ensures c.if-are_few.true).0 in
+    (search rules, (search rules, (c.requires.alike, (c.requires.word, some))))
+
 pub put_others-requires-sync-typeof-execution-Shared : goal.put_others-requires-sync-typeof-execution-Shared
 put_others-requires-sync-typeof-execution-Shared g c κs within =
     let works = g.G.Group.works c.args.group.now in
