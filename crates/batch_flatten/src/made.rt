@@ -1,6 +1,6 @@
 //! What alike calls make, by one kernel run over their joined operands, before any of them takes its turn.
 
-ghost use Rattle.std.specs.Prelude.{◌≡◌, ◌≢◌, [], map, IfOk, IfSome, IsTrue, OnErr, OnOk};
+ghost use Rattle.std.specs.Prelude.{◌≡◌, ◌≢◌, [], map, IfOk, IsTrue, OnErr, OnOk};
 ghost use Rattle.cvl_text.specs.Tasks.{reads, task_of};
 ghost use Rattle.scan_kernels.specs.Metering.{raised};
 ghost use Rattle.cvl_calls.specs.Joined.{effects_of};
@@ -25,14 +25,15 @@ struct Asked<'a> {
     requests: &'a [Request],
 }
 
-/// The single call of a request.
+/// The call of a request, whose word runs a kernel: a single one.
 #[inline(always)]
-fn call_of(request: &Request) -> Option<&Call>
-    ensures { IfSome result (λ call. request.now.job ≡ Job.One call.now) }
+fn call_of(request: &Request) -> &Call
+    requires { IsTrue (runs_kernel (word_asked request.now)) }
+    ensures { request.now.job ≡ Job.One result.now }
 {
     match &request.job {
-        Job::One(call) => Some(call),
-        Job::Many(_) => None,
+        Job::One(call) => call,
+        Job::Many(_) => unreachable!(),
     }
 }
 
@@ -55,10 +56,7 @@ fn make_the_same(earlier: &Request, later: &Request) -> bool
     requires kernel { IsTrue (runs_kernel (word_asked earlier.now)) }
     ensures { IsTrue result → (memory : State) → work_asked memory later.now ≡ work_asked memory earlier.now }
 {
-    match (call_of(earlier), call_of(later)) {
-        (Some(before), Some(behind)) => read_alike(before, behind),
-        _ => false,
-    }
+    read_alike(call_of(earlier), call_of(later))
 }
 
 impl Group for Asked<'_> {
@@ -75,10 +73,7 @@ impl Group for Asked<'_> {
 
     #[inline(always)]
     fn item(&self, place: usize) -> Item<'_> {
-        match call_of(&self.requests[place]) {
-            Some(call) => Item::Call(self.memory, call),
-            None => unreachable!(),
-        }
+        Item::Call(self.memory, call_of(&self.requests[place]))
     }
 
     #[inline(always)]

@@ -24,6 +24,7 @@ use Rattle.cvl_text.specs.declared.word.ThreeWord.TheVariants as threes
 use Rattle.cvl_text.specs.declared.word.Kind.TheVariants as kinds
 use Rattle.cvl_text.specs.Answers.{IntOf, BoolOf, VectorOf}
 use Rattle.cvl_calls.specs.declared.stop.Stop.{Stop}
+use Rattle.cvl_calls.specs.declared.stop.Stop.TheVariants as stops
 use Rattle.cvl_calls.specs.declared.judged.Judged.{Judged}
 use Rattle.cvl_calls.specs.declared.judged.Judged.TheVariants as judged
 use Rattle.cvl_calls.specs.Operands.{over_items}
@@ -144,9 +145,10 @@ IsReady other = Unit {0}
 
 -- What the checks of a call of this word return, where the definition of its work says what comes of it: what is left to be
 -- done, ready to be run, or the first fault.
-abbrev pub Judges : Word → Result Effect Fault → Result Judged Fault → Type 0
+abbrev pub Judges : Word → Result Effect Fault → Result Judged Stop → Type 0
 Judges word said (Ok judged) = (Ok (made judged) ≡ said) × (word_of judged ≡ word) × IsReady judged
-Judges word said (Err fault) = Err fault ≡ said
+Judges word said (Err (stops.Fault fault)) = Err fault ≡ said
+Judges word said (Err stops.OutOfMemory) = ⊥
 
 -- The same where memory may run out in the checks.
 abbrev pub JudgesBy : Bool → Word → Result Effect Fault → Result Judged Stop → Type 0

@@ -55,11 +55,6 @@ abbrev pub ◌>>=◌ : {A B : Type 0} → Result A Fault → (A → Result B Fau
 abbrev pub check : Bool → Fault → Result (Unit {0}) Fault
 check holds fault = if holds then Ok tt else Err fault
 
--- the same, where memory may be wanted as well
-abbrev pub stopped : {X : Type 0} → Result X Fault → Result X Stop
-stopped (Ok x) = Ok x
-stopped (Err f) = Err (stops.Fault f)
-
 -- what was returned, seen by view
 abbrev pub viewed : {X Y : Type 0} → (X → Y) → Result X Fault → Result Y Fault
 viewed view (Ok x) = Ok (view x)

@@ -16,7 +16,7 @@ use crate::shapes::scans::*;
 use crate::shapes::setting::*;
 use crate::shapes::spreads::*;
 use crate::shapes::values::*;
-use crate::stop::{Stop, or_stop};
+use crate::stop::Stop;
 use cvl_text::{Call, Fault, Kind};
 use scan_kernels::{Execution, Meter, Sequential};
 use segment_desc::OutOfMemory;
@@ -88,7 +88,7 @@ fn by_shape<'a>(
         Call::SmpSeg { kind, a, i, s, .. } => permute_segments(
             execution, alloc, meter, memory, *kind, a, i, s,
         ),
-        _ => or_stop(judge_at_once(execution, meter, memory, call)),
+        _ => judge_at_once(execution, meter, memory, call),
     }
 }
 
@@ -99,7 +99,7 @@ fn judge_at_once<'a>(
     meter: &Meter,
     memory: &'a Memory,
     call: &'a Call,
-) -> Result<Judged<'a>, Fault>
+) -> Result<Judged<'a>, Stop>
     requires { tests_index (task_of call.now).word ≡ false }
     ensures { let task = task_of call.now in
         Judges task.word (work memory.now.limit task.word (operands_of memory.now task.arguments)) result }

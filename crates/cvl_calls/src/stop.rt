@@ -1,8 +1,6 @@
 ghost use Rattle.std.specs.Prelude.{◌≡◌};
 ghost use Rattle.cvl_calls.specs.declared.stop.Stop.TheVariants as stops;
-ghost use Rattle.cvl_calls.specs.Outcomes.{stopped};
 
-use crate::judged::Judged;
 use cvl_text::Fault;
 use std::alloc::AllocError;
 
@@ -35,12 +33,4 @@ impl From<segment_desc::OutOfMemory> for Stop {
     fn from(_error: segment_desc::OutOfMemory) -> Stop {
         Stop::OutOfMemory
     }
-}
-
-/// What was judged, where memory may be wanted as well.
-#[inline(always)]
-pub(crate) fn or_stop<'a>(judged: Result<Judged<'a>, Fault>) -> Result<Judged<'a>, Stop>
-    ensures { result ≡ stopped judged.entry }
-{
-    Ok(judged?)
 }

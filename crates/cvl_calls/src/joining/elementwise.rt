@@ -12,7 +12,7 @@ use crate::shapes::elementwise::{
     alter_bools, alter_ints, compare, map_bools, map_ints, numbers_of, select_bools, select_ints,
     truths_of,
 };
-use crate::stop::{Stop, or_stop};
+use crate::stop::Stop;
 use cvl_text::{B1, B2, Call, Cmp, Kind, Z1, Z2};
 use scan_kernels::Execution;
 use scan_kernels::joined::{Number, Select, Truth};
@@ -28,7 +28,7 @@ impl<'a> Joins<'a, &'a [i64], i64> for Z1 {
         call: &'a Call,
     ) -> Result<Judged<'a>, Stop> {
         match call {
-            Call::MapZ1 { op, a, .. } => or_stop(alter_ints(judge.memory, *op, a)),
+            Call::MapZ1 { op, a, .. } => alter_ints(judge.memory, *op, a),
             _ => unreachable!(),
         }
     }
@@ -53,7 +53,7 @@ impl<'a> Joins<'a, &'a [bool], bool> for B1 {
         call: &'a Call,
     ) -> Result<Judged<'a>, Stop> {
         match call {
-            Call::MapB1 { op, a, .. } => or_stop(alter_bools(judge.memory, *op, a)),
+            Call::MapB1 { op, a, .. } => alter_bools(judge.memory, *op, a),
             _ => unreachable!(),
         }
     }
@@ -78,7 +78,7 @@ impl<'a> Joins<'a, &'a [i64], bool> for Truth {
         call: &'a Call,
     ) -> Result<Judged<'a>, Stop> {
         match call {
-            Call::Boo { a, .. } => or_stop(truths_of(judge.memory, a)),
+            Call::Boo { a, .. } => truths_of(judge.memory, a),
             _ => unreachable!(),
         }
     }
@@ -103,7 +103,7 @@ impl<'a> Joins<'a, &'a [bool], i64> for Number {
         call: &'a Call,
     ) -> Result<Judged<'a>, Stop> {
         match call {
-            Call::IntOf { a, .. } => or_stop(numbers_of(judge.memory, a)),
+            Call::IntOf { a, .. } => numbers_of(judge.memory, a),
             _ => unreachable!(),
         }
     }
@@ -128,7 +128,7 @@ impl<'a> Joins<'a, (&'a [i64], &'a [i64]), i64> for Z2 {
         call: &'a Call,
     ) -> Result<Judged<'a>, Stop> {
         match call {
-            Call::MapZ2 { op, a, b, .. } => or_stop(map_ints(judge.memory, *op, a, b)),
+            Call::MapZ2 { op, a, b, .. } => map_ints(judge.memory, *op, a, b),
             _ => unreachable!(),
         }
     }
@@ -153,7 +153,7 @@ impl<'a> Joins<'a, (&'a [i64], &'a [i64]), bool> for Cmp {
         call: &'a Call,
     ) -> Result<Judged<'a>, Stop> {
         match call {
-            Call::CmpZ { op, a, b, .. } => or_stop(compare(judge.memory, *op, a, b)),
+            Call::CmpZ { op, a, b, .. } => compare(judge.memory, *op, a, b),
             _ => unreachable!(),
         }
     }
@@ -178,7 +178,7 @@ impl<'a> Joins<'a, (&'a [bool], &'a [bool]), bool> for B2 {
         call: &'a Call,
     ) -> Result<Judged<'a>, Stop> {
         match call {
-            Call::MapB2 { op, a, b, .. } => or_stop(map_bools(judge.memory, *op, a, b)),
+            Call::MapB2 { op, a, b, .. } => map_bools(judge.memory, *op, a, b),
             _ => unreachable!(),
         }
     }
@@ -209,7 +209,7 @@ impl<'a> Joins<'a, (&'a [bool], &'a [i64], &'a [i64]), i64> for Select {
                 a,
                 b,
                 ..
-            } => or_stop(select_ints(judge.memory, f, a, b)),
+            } => select_ints(judge.memory, f, a, b),
             _ => unreachable!(),
         }
     }
@@ -240,7 +240,7 @@ impl<'a> Joins<'a, (&'a [bool], &'a [bool], &'a [bool]), bool> for Select {
                 a,
                 b,
                 ..
-            } => or_stop(select_bools(judge.memory, f, a, b)),
+            } => select_bools(judge.memory, f, a, b),
             _ => unreachable!(),
         }
     }

@@ -9,7 +9,7 @@ use crate::joining::parts::{Joins, Judge};
 use crate::judged::Judged;
 use crate::operands::Vector;
 use crate::shapes::moves::{gather, gather_segments, permute, permute_segments};
-use crate::stop::{Stop, or_stop};
+use crate::stop::Stop;
 use cvl_text::{Call, Kind};
 use permute_kernels::{BackPermute, Gather, Permute, PermuteWhole};
 use scan_kernels::Execution;
@@ -111,7 +111,7 @@ impl<'a> Joins<'a, (&'a [i64], &'a [i64]), i64> for Gather {
                 a,
                 i,
                 ..
-            } => or_stop(gather(judge.execution, judge.meter, judge.memory, Kind::Z, a, i)),
+            } => gather(judge.execution, judge.meter, judge.memory, Kind::Z, a, i),
             _ => unreachable!(),
         }
     }
@@ -142,7 +142,7 @@ impl<'a> Joins<'a, (&'a [i64], &'a Segd, &'a [i64], &'a Segd), i64> for BackPerm
                 s,
                 index,
                 ..
-            } => or_stop(gather_segments(
+            } => gather_segments(
                 judge.execution,
                 judge.meter,
                 judge.memory,
@@ -151,7 +151,7 @@ impl<'a> Joins<'a, (&'a [i64], &'a Segd, &'a [i64], &'a Segd), i64> for BackPerm
                 s,
                 &index.i,
                 &index.t,
-            )),
+            ),
             _ => unreachable!(),
         }
     }
@@ -263,7 +263,7 @@ impl<'a> Joins<'a, (&'a [bool], &'a [i64]), bool> for Gather {
                 a,
                 i,
                 ..
-            } => or_stop(gather(judge.execution, judge.meter, judge.memory, Kind::B, a, i)),
+            } => gather(judge.execution, judge.meter, judge.memory, Kind::B, a, i),
             _ => unreachable!(),
         }
     }
@@ -294,7 +294,7 @@ impl<'a> Joins<'a, (&'a [bool], &'a Segd, &'a [i64], &'a Segd), bool> for BackPe
                 s,
                 index,
                 ..
-            } => or_stop(gather_segments(
+            } => gather_segments(
                 judge.execution,
                 judge.meter,
                 judge.memory,
@@ -303,7 +303,7 @@ impl<'a> Joins<'a, (&'a [bool], &'a Segd, &'a [i64], &'a Segd), bool> for BackPe
                 s,
                 &index.i,
                 &index.t,
-            )),
+            ),
             _ => unreachable!(),
         }
     }

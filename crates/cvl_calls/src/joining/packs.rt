@@ -9,7 +9,7 @@ use crate::joining::parts::{Joins, Judge};
 use crate::judged::Judged;
 use crate::operands::Vector;
 use crate::shapes::packs::{pack, pack_lengths, pack_segments};
-use crate::stop::{Stop, or_stop};
+use crate::stop::Stop;
 use cvl_text::{Call, Kind};
 use permute_kernels::{Pack, PackLengths, PackSegments};
 use scan_kernels::Execution;
@@ -31,7 +31,7 @@ impl<'a> Joins<'a, (&'a [i64], &'a [bool]), i64> for Pack {
                 a,
                 f,
                 ..
-            } => or_stop(pack(judge.memory, Kind::Z, a, f)),
+            } => pack(judge.memory, Kind::Z, a, f),
             _ => unreachable!(),
         }
     }
@@ -62,7 +62,7 @@ impl<'a> Joins<'a, (&'a [i64], &'a [bool], &'a Segd), i64> for PackSegments {
                 f,
                 s,
                 ..
-            } => or_stop(pack_segments(judge.memory, Kind::Z, a, f, s)),
+            } => pack_segments(judge.memory, Kind::Z, a, f, s),
             _ => unreachable!(),
         }
     }
@@ -92,7 +92,7 @@ impl<'a> Joins<'a, (&'a [bool], &'a [bool]), bool> for Pack {
                 a,
                 f,
                 ..
-            } => or_stop(pack(judge.memory, Kind::B, a, f)),
+            } => pack(judge.memory, Kind::B, a, f),
             _ => unreachable!(),
         }
     }
@@ -123,7 +123,7 @@ impl<'a> Joins<'a, (&'a [bool], &'a [bool], &'a Segd), bool> for PackSegments {
                 f,
                 s,
                 ..
-            } => or_stop(pack_segments(judge.memory, Kind::B, a, f, s)),
+            } => pack_segments(judge.memory, Kind::B, a, f, s),
             _ => unreachable!(),
         }
     }
@@ -148,7 +148,7 @@ impl<'a> Joins<'a, (&'a [bool], &'a Segd), i64> for PackLengths {
         call: &'a Call,
     ) -> Result<Judged<'a>, Stop> {
         match call {
-            Call::Pkl { f, s, .. } => or_stop(pack_lengths(judge.memory, f, s)),
+            Call::Pkl { f, s, .. } => pack_lengths(judge.memory, f, s),
             _ => unreachable!(),
         }
     }

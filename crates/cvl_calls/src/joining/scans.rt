@@ -10,7 +10,7 @@ use crate::shapes::scans::{
     reduce_bool_segments, reduce_int_segments, scan_bool_segments, scan_bools, scan_int_segments,
     scan_ints,
 };
-use crate::stop::{Stop, or_stop};
+use crate::stop::Stop;
 use cvl_text::Call;
 use scan_kernels::Execution;
 use scan_kernels::joined::{
@@ -29,7 +29,7 @@ impl<'a> Joins<'a, &'a [i64], i64> for ScanInts {
         call: &'a Call,
     ) -> Result<Judged<'a>, Stop> {
         match call {
-            Call::ScanOfZ { op, a, s: None, .. } => or_stop(scan_ints(judge.memory, *op, a)),
+            Call::ScanOfZ { op, a, s: None, .. } => scan_ints(judge.memory, *op, a),
             _ => unreachable!(),
         }
     }
@@ -59,7 +59,7 @@ impl<'a> Joins<'a, (&'a [i64], &'a Segd), i64> for ScanIntSegments {
                 a,
                 s: Some(s),
                 ..
-            } => or_stop(scan_int_segments(judge.memory, *op, a, s)),
+            } => scan_int_segments(judge.memory, *op, a, s),
             _ => unreachable!(),
         }
     }
@@ -84,7 +84,7 @@ impl<'a> Joins<'a, (&'a [i64], &'a Segd), i64> for ReduceIntSegments {
         call: &'a Call,
     ) -> Result<Judged<'a>, Stop> {
         match call {
-            Call::RedSegZ { op, a, s, .. } => or_stop(reduce_int_segments(judge.memory, *op, a, s)),
+            Call::RedSegZ { op, a, s, .. } => reduce_int_segments(judge.memory, *op, a, s),
             _ => unreachable!(),
         }
     }
@@ -109,7 +109,7 @@ impl<'a> Joins<'a, &'a [bool], bool> for ScanBools {
         call: &'a Call,
     ) -> Result<Judged<'a>, Stop> {
         match call {
-            Call::ScanOfB { op, a, s: None, .. } => or_stop(scan_bools(judge.memory, *op, a)),
+            Call::ScanOfB { op, a, s: None, .. } => scan_bools(judge.memory, *op, a),
             _ => unreachable!(),
         }
     }
@@ -139,7 +139,7 @@ impl<'a> Joins<'a, (&'a [bool], &'a Segd), bool> for ScanBoolSegments {
                 a,
                 s: Some(s),
                 ..
-            } => or_stop(scan_bool_segments(judge.memory, *op, a, s)),
+            } => scan_bool_segments(judge.memory, *op, a, s),
             _ => unreachable!(),
         }
     }
@@ -164,12 +164,7 @@ impl<'a> Joins<'a, (&'a [bool], &'a Segd), bool> for ReduceBoolSegments {
         call: &'a Call,
     ) -> Result<Judged<'a>, Stop> {
         match call {
-            Call::RedSegB { op, a, s, .. } => or_stop(reduce_bool_segments(
-                judge.memory,
-                *op,
-                a,
-                s,
-            )),
+            Call::RedSegB { op, a, s, .. } => reduce_bool_segments(judge.memory, *op, a, s),
             _ => unreachable!(),
         }
     }

@@ -9,7 +9,7 @@ use crate::joining::parts::{Joins, Judge};
 use crate::judged::Judged;
 use crate::operands::Vector;
 use crate::shapes::spreads::{distribute, index, index_segments, repeat_bool, repeat_int};
-use crate::stop::{Stop, or_stop};
+use crate::stop::Stop;
 use cvl_text::{Call, Kind};
 use scan_kernels::Execution;
 use scan_kernels::joined::{Distribute, Index, IndexSegments, Repeat};
@@ -27,7 +27,7 @@ impl<'a> Joins<'a, (i64, usize), i64> for Repeat {
         call: &'a Call,
     ) -> Result<Judged<'a>, Stop> {
         match call {
-            Call::DisZ { x, n, .. } => or_stop(repeat_int(judge.memory.limit(), *x, *n)),
+            Call::DisZ { x, n, .. } => repeat_int(judge.memory.limit(), *x, *n),
             _ => unreachable!(),
         }
     }
@@ -57,7 +57,7 @@ impl<'a> Joins<'a, (&'a [i64], &'a Segd), i64> for Distribute {
                 a,
                 s,
                 ..
-            } => or_stop(distribute(judge.memory, Kind::Z, a, s)),
+            } => distribute(judge.memory, Kind::Z, a, s),
             _ => unreachable!(),
         }
     }
@@ -82,7 +82,7 @@ impl<'a> Joins<'a, (bool, usize), bool> for Repeat {
         call: &'a Call,
     ) -> Result<Judged<'a>, Stop> {
         match call {
-            Call::DisB { x, n, .. } => or_stop(repeat_bool(judge.memory.limit(), *x, *n)),
+            Call::DisB { x, n, .. } => repeat_bool(judge.memory.limit(), *x, *n),
             _ => unreachable!(),
         }
     }
@@ -112,7 +112,7 @@ impl<'a> Joins<'a, (&'a [bool], &'a Segd), bool> for Distribute {
                 a,
                 s,
                 ..
-            } => or_stop(distribute(judge.memory, Kind::B, a, s)),
+            } => distribute(judge.memory, Kind::B, a, s),
             _ => unreachable!(),
         }
     }
@@ -139,7 +139,7 @@ impl<'a> Joins<'a, (i64, i64, usize), i64> for Index {
         match call {
             Call::Ind { u, v, n, .. } => {
                 memories_are_lawful(judge.memory);
-                or_stop(index(judge.memory.limit(), *u, *v, *n))
+                index(judge.memory.limit(), *u, *v, *n)
             }
             _ => unreachable!(),
         }
@@ -165,7 +165,7 @@ impl<'a> Joins<'a, (&'a [i64], &'a [i64], &'a Segd), i64> for IndexSegments {
         call: &'a Call,
     ) -> Result<Judged<'a>, Stop> {
         match call {
-            Call::IndSeg { a, b, s, .. } => or_stop(index_segments(judge.memory, a, b, s)),
+            Call::IndSeg { a, b, s, .. } => index_segments(judge.memory, a, b, s),
             _ => unreachable!(),
         }
     }

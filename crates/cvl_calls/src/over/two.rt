@@ -20,6 +20,7 @@ use crate::over::held::{give, lent, may_go_over, store, take};
 use crate::over::said::Said;
 use crate::shapes::elementwise::map_ints;
 use crate::spare::Spare;
+use crate::stop::Stop;
 use cvl_text::Z2;
 use scan_kernels::{Execution, Meter, Source, map2_z, map2_z_over_first, map2_z_over_second};
 use std::alloc::Global;
@@ -198,7 +199,8 @@ pub(crate) fn map_step<S: Said>(
     memories_are_lawful(memory);
     let judged = match map_ints(memory, op, a, b) {
         Ok(judged) => judged,
-        Err(fault) => return Ok(S::refused(fault)),
+        Err(Stop::Fault(fault)) => return Ok(S::refused(fault)),
+        Err(Stop::OutOfMemory) => unreachable!(),
     };
     let Judged::MapInts(judged_op, xs, ys) = judged else {
         unreachable!()

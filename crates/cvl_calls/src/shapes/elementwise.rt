@@ -18,7 +18,8 @@ ghost use Rattle.cvl_calls.specs.Work.{map_one, map_two, select};
 use crate::conditions::{same_length, seconds};
 use crate::judged::Judged;
 use crate::operands::{bools, ints};
-use cvl_text::{B1, B2, Cmp, Fault, Z1, Z2};
+use crate::stop::Stop;
+use cvl_text::{B1, B2, Cmp, Z1, Z2};
 use vector_memory::{Memory, Name};
 
 #[tactic(auto, unfolding(crate::specs::Work::map_two))]
@@ -28,7 +29,7 @@ pub(crate) fn map_ints<'a>(
     op: Z2,
     a: &Name,
     b: &Name,
-) -> Result<Judged<'a>, Fault>
+) -> Result<Judged<'a>, Stop>
     ensures { Judges (words.Two (twos.MapZ2 op)) (map_two integers integers (seconds op) (apply_z op) (Held (value_at memory.now a.now)) (Held (value_at memory.now b.now))) result }
 {
     let xs = ints(memory, a)?;
@@ -45,7 +46,7 @@ pub(crate) fn compare<'a>(
     op: Cmp,
     a: &Name,
     b: &Name,
-) -> Result<Judged<'a>, Fault>
+) -> Result<Judged<'a>, Stop>
     ensures { Judges (words.Two (twos.CmpZ op)) (map_two integers truths any_seconds (compares op) (Held (value_at memory.now a.now)) (Held (value_at memory.now b.now))) result }
 {
     let xs = ints(memory, a)?;
@@ -61,7 +62,7 @@ pub(crate) fn map_bools<'a>(
     op: B2,
     a: &Name,
     b: &Name,
-) -> Result<Judged<'a>, Fault>
+) -> Result<Judged<'a>, Stop>
     ensures { Judges (words.Two (twos.MapB2 op)) (map_two truths truths any_seconds (apply_b op) (Held (value_at memory.now a.now)) (Held (value_at memory.now b.now))) result }
 {
     let xs = bools(memory, a)?;
@@ -72,7 +73,7 @@ pub(crate) fn map_bools<'a>(
 
 #[tactic(auto, unfolding(crate::specs::Work::map_one))]
 #[inline(always)]
-pub(crate) fn alter_ints<'a>(memory: &'a Memory, op: Z1, a: &Name) -> Result<Judged<'a>, Fault>
+pub(crate) fn alter_ints<'a>(memory: &'a Memory, op: Z1, a: &Name) -> Result<Judged<'a>, Stop>
     ensures { Judges (words.One (ones.MapZ1 op)) (map_one integers integers (alter_z op) (Held (value_at memory.now a.now))) result }
 {
     Ok(Judged::AlterInts(op, ints(memory, a)?))
@@ -80,7 +81,7 @@ pub(crate) fn alter_ints<'a>(memory: &'a Memory, op: Z1, a: &Name) -> Result<Jud
 
 #[tactic(auto, unfolding(crate::specs::Work::map_one))]
 #[inline(always)]
-pub(crate) fn alter_bools<'a>(memory: &'a Memory, op: B1, a: &Name) -> Result<Judged<'a>, Fault>
+pub(crate) fn alter_bools<'a>(memory: &'a Memory, op: B1, a: &Name) -> Result<Judged<'a>, Stop>
     ensures { Judges (words.One (ones.MapB1 op)) (map_one truths truths (alter_b op) (Held (value_at memory.now a.now))) result }
 {
     Ok(Judged::AlterBools(op, bools(memory, a)?))
@@ -88,7 +89,7 @@ pub(crate) fn alter_bools<'a>(memory: &'a Memory, op: B1, a: &Name) -> Result<Ju
 
 #[tactic(auto, unfolding(crate::specs::Work::map_one))]
 #[inline(always)]
-pub(crate) fn truths_of<'a>(memory: &'a Memory, a: &Name) -> Result<Judged<'a>, Fault>
+pub(crate) fn truths_of<'a>(memory: &'a Memory, a: &Name) -> Result<Judged<'a>, Stop>
     ensures { Judges (words.One ones.Boo) (map_one integers truths is_true (Held (value_at memory.now a.now))) result }
 {
     Ok(Judged::TruthsOf(ints(memory, a)?))
@@ -96,7 +97,7 @@ pub(crate) fn truths_of<'a>(memory: &'a Memory, a: &Name) -> Result<Judged<'a>, 
 
 #[tactic(auto, unfolding(crate::specs::Work::map_one))]
 #[inline(always)]
-pub(crate) fn numbers_of<'a>(memory: &'a Memory, a: &Name) -> Result<Judged<'a>, Fault>
+pub(crate) fn numbers_of<'a>(memory: &'a Memory, a: &Name) -> Result<Judged<'a>, Stop>
     ensures { Judges (words.One ones.IntOf) (map_one truths integers as_number (Held (value_at memory.now a.now))) result }
 {
     Ok(Judged::NumbersOf(bools(memory, a)?))
@@ -109,7 +110,7 @@ pub(crate) fn select_ints<'a>(
     f: &Name,
     a: &Name,
     b: &Name,
-) -> Result<Judged<'a>, Fault>
+) -> Result<Judged<'a>, Stop>
     ensures { Judges (words.Three (threes.Sel kinds.Z)) (select integers (Held (value_at memory.now f.now)) (Held (value_at memory.now a.now)) (Held (value_at memory.now b.now))) result }
 {
     let flags = bools(memory, f)?;
@@ -127,7 +128,7 @@ pub(crate) fn select_bools<'a>(
     f: &Name,
     a: &Name,
     b: &Name,
-) -> Result<Judged<'a>, Fault>
+) -> Result<Judged<'a>, Stop>
     ensures { Judges (words.Three (threes.Sel kinds.B)) (select truths (Held (value_at memory.now f.now)) (Held (value_at memory.now a.now)) (Held (value_at memory.now b.now))) result }
 {
     let flags = bools(memory, f)?;

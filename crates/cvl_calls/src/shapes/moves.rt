@@ -15,7 +15,7 @@ use crate::conditions::{
 use crate::judged::Judged;
 use crate::operands::{ints, items, segs};
 use crate::stop::Stop;
-use cvl_text::{Fault, Kind};
+use cvl_text::Kind;
 use scan_kernels::{Execution, Meter};
 use std::alloc::Global;
 use vector_memory::{Memory, Name};
@@ -72,7 +72,7 @@ pub(crate) fn gather<'a>(
     kind: Kind,
     a: &Name,
     i: &Name,
-) -> Result<Judged<'a>, Fault>
+) -> Result<Judged<'a>, Stop>
     ensures { Judges (words.Two (twos.Bck kind)) (gather kind (Held (value_at memory.now a.now)) (Held (value_at memory.now i.now))) result }
 {
     let xs = items(memory, kind, a)?;
@@ -92,7 +92,7 @@ pub(crate) fn gather_segments<'a>(
     s: &Name,
     i: &Name,
     t: &Name,
-) -> Result<Judged<'a>, Fault>
+) -> Result<Judged<'a>, Stop>
     ensures { Judges (words.BckSeg kind) (gather_segments kind (Held (value_at memory.now a.now)) (Held (value_at memory.now s.now)) (Held (value_at memory.now i.now)) (Held (value_at memory.now t.now))) result }
 {
     let xs = items(memory, kind, a)?;

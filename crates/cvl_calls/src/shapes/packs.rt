@@ -11,7 +11,8 @@ ghost use Rattle.cvl_calls.specs.Work.{pack, pack_lengths, pack_segments};
 use crate::conditions::{has_all, same_length};
 use crate::judged::Judged;
 use crate::operands::{bools, items, segs};
-use cvl_text::{Fault, Kind};
+use crate::stop::Stop;
+use cvl_text::Kind;
 use vector_memory::{Memory, Name};
 
 #[tactic(auto, unfolding(crate::specs::Work::pack))]
@@ -21,7 +22,7 @@ pub(crate) fn pack<'a>(
     kind: Kind,
     a: &Name,
     f: &Name,
-) -> Result<Judged<'a>, Fault>
+) -> Result<Judged<'a>, Stop>
     ensures { Judges (words.Two (twos.Pck kind)) (pack kind (Held (value_at memory.now a.now)) (Held (value_at memory.now f.now))) result }
 {
     let xs = items(memory, kind, a)?;
@@ -38,7 +39,7 @@ pub(crate) fn pack_segments<'a>(
     a: &Name,
     f: &Name,
     s: &Name,
-) -> Result<Judged<'a>, Fault>
+) -> Result<Judged<'a>, Stop>
     ensures { Judges (words.Three (threes.PckSeg kind)) (pack_segments kind (Held (value_at memory.now a.now)) (Held (value_at memory.now f.now)) (Held (value_at memory.now s.now))) result }
 {
     let xs = items(memory, kind, a)?;
@@ -51,7 +52,7 @@ pub(crate) fn pack_segments<'a>(
 
 #[tactic(auto, unfolding(crate::specs::Work::pack_lengths))]
 #[inline(always)]
-pub(crate) fn pack_lengths<'a>(memory: &'a Memory, f: &Name, s: &Name) -> Result<Judged<'a>, Fault>
+pub(crate) fn pack_lengths<'a>(memory: &'a Memory, f: &Name, s: &Name) -> Result<Judged<'a>, Stop>
     ensures { Judges (words.Two twos.Pkl) (pack_lengths (Held (value_at memory.now f.now)) (Held (value_at memory.now s.now))) result }
 {
     let flags = bools(memory, f)?;

@@ -10,12 +10,13 @@ ghost use Rattle.cvl_calls.specs.Work.{extract, replace};
 
 use crate::judged::Judged;
 use crate::operands::ints;
+use crate::stop::Stop;
 use cvl_text::Fault;
 use vector_memory::{Memory, Name};
 
 #[tactic(auto, unfolding(crate::specs::Work::extract))]
 #[inline(always)]
-pub(crate) fn extract<'a>(memory: &'a Memory, a: &Name, p: i64) -> Result<Judged<'a>, Fault>
+pub(crate) fn extract<'a>(memory: &'a Memory, a: &Name, p: i64) -> Result<Judged<'a>, Stop>
     ensures { Judges words.Ext (extract (Held (value_at memory.now a.now)) (NumberGiven p)) result }
 {
     let xs = ints(memory, a)?;
@@ -25,7 +26,7 @@ pub(crate) fn extract<'a>(memory: &'a Memory, a: &Name, p: i64) -> Result<Judged
 
 #[tactic(auto, unfolding(crate::specs::Work::replace))]
 #[inline(always)]
-pub(crate) fn replace<'a>(memory: &'a Memory, a: &Name, p: i64, x: i64) -> Result<Judged<'a>, Fault>
+pub(crate) fn replace<'a>(memory: &'a Memory, a: &Name, p: i64, x: i64) -> Result<Judged<'a>, Stop>
     ensures { Judges words.Rep (replace (Held (value_at memory.now a.now)) (NumberGiven p) (NumberGiven x)) result }
 {
     let xs = ints(memory, a)?;

@@ -15,12 +15,13 @@ ghost use Rattle.cvl_calls.specs.Work.{reduce, reduce_segments, scan, scan_segme
 use crate::conditions::has_all;
 use crate::judged::Judged;
 use crate::operands::{bools, ints, segs};
-use cvl_text::{Fault, ScanB, ScanZ};
+use crate::stop::Stop;
+use cvl_text::{ScanB, ScanZ};
 use vector_memory::{Memory, Name};
 
 #[tactic(auto, unfolding(crate::specs::Work::scan))]
 #[inline(always)]
-pub(crate) fn scan_ints<'a>(memory: &'a Memory, op: ScanZ, a: &Name) -> Result<Judged<'a>, Fault>
+pub(crate) fn scan_ints<'a>(memory: &'a Memory, op: ScanZ, a: &Name) -> Result<Judged<'a>, Stop>
     ensures { Judges (words.One (ones.ScanZ op)) (scan integers (combine_z op) (unit_z op) (Held (value_at memory.now a.now))) result }
 {
     Ok(Judged::ScanInts(op, ints(memory, a)?))
@@ -33,7 +34,7 @@ pub(crate) fn scan_int_segments<'a>(
     op: ScanZ,
     a: &Name,
     s: &Name,
-) -> Result<Judged<'a>, Fault>
+) -> Result<Judged<'a>, Stop>
     ensures { Judges (words.Two (twos.ScanSegZ op)) (scan_segments integers (combine_z op) (unit_z op) (Held (value_at memory.now a.now)) (Held (value_at memory.now s.now))) result }
 {
     let xs = ints(memory, a)?;
@@ -44,7 +45,7 @@ pub(crate) fn scan_int_segments<'a>(
 
 #[tactic(auto, unfolding(crate::specs::Work::reduce))]
 #[inline(always)]
-pub(crate) fn reduce_ints<'a>(memory: &'a Memory, op: ScanZ, a: &Name) -> Result<Judged<'a>, Fault>
+pub(crate) fn reduce_ints<'a>(memory: &'a Memory, op: ScanZ, a: &Name) -> Result<Judged<'a>, Stop>
     ensures { Judges (words.Ask (asks.RedZ op)) (reduce integers (combine_z op) (unit_z op) (Held (value_at memory.now a.now))) result }
 {
     Ok(Judged::ReduceInts(op, ints(memory, a)?))
@@ -57,7 +58,7 @@ pub(crate) fn reduce_int_segments<'a>(
     op: ScanZ,
     a: &Name,
     s: &Name,
-) -> Result<Judged<'a>, Fault>
+) -> Result<Judged<'a>, Stop>
     ensures { Judges (words.Two (twos.RedSegZ op)) (reduce_segments integers (combine_z op) (unit_z op) (Held (value_at memory.now a.now)) (Held (value_at memory.now s.now))) result }
 {
     let xs = ints(memory, a)?;
@@ -68,7 +69,7 @@ pub(crate) fn reduce_int_segments<'a>(
 
 #[tactic(auto, unfolding(crate::specs::Work::scan))]
 #[inline(always)]
-pub(crate) fn scan_bools<'a>(memory: &'a Memory, op: ScanB, a: &Name) -> Result<Judged<'a>, Fault>
+pub(crate) fn scan_bools<'a>(memory: &'a Memory, op: ScanB, a: &Name) -> Result<Judged<'a>, Stop>
     ensures { Judges (words.One (ones.ScanB op)) (scan truths (combine_b op) (unit_b op) (Held (value_at memory.now a.now))) result }
 {
     Ok(Judged::ScanBools(op, bools(memory, a)?))
@@ -81,7 +82,7 @@ pub(crate) fn scan_bool_segments<'a>(
     op: ScanB,
     a: &Name,
     s: &Name,
-) -> Result<Judged<'a>, Fault>
+) -> Result<Judged<'a>, Stop>
     ensures { Judges (words.Two (twos.ScanSegB op)) (scan_segments truths (combine_b op) (unit_b op) (Held (value_at memory.now a.now)) (Held (value_at memory.now s.now))) result }
 {
     let xs = bools(memory, a)?;
@@ -92,7 +93,7 @@ pub(crate) fn scan_bool_segments<'a>(
 
 #[tactic(auto, unfolding(crate::specs::Work::reduce))]
 #[inline(always)]
-pub(crate) fn reduce_bools<'a>(memory: &'a Memory, op: ScanB, a: &Name) -> Result<Judged<'a>, Fault>
+pub(crate) fn reduce_bools<'a>(memory: &'a Memory, op: ScanB, a: &Name) -> Result<Judged<'a>, Stop>
     ensures { Judges (words.Ask (asks.RedB op)) (reduce truths (combine_b op) (unit_b op) (Held (value_at memory.now a.now))) result }
 {
     Ok(Judged::ReduceBools(op, bools(memory, a)?))
@@ -105,7 +106,7 @@ pub(crate) fn reduce_bool_segments<'a>(
     op: ScanB,
     a: &Name,
     s: &Name,
-) -> Result<Judged<'a>, Fault>
+) -> Result<Judged<'a>, Stop>
     ensures { Judges (words.Two (twos.RedSegB op)) (reduce_segments truths (combine_b op) (unit_b op) (Held (value_at memory.now a.now)) (Held (value_at memory.now s.now))) result }
 {
     let xs = bools(memory, a)?;

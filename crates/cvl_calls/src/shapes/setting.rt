@@ -8,11 +8,11 @@ ghost use Rattle.cvl_calls.specs.Work.{set};
 
 use crate::judged::Judged;
 use crate::operands::check_length;
-use cvl_text::Fault;
+use crate::stop::Stop;
 
 #[tactic(auto, unfolding(crate::specs::Work::set))]
 #[inline(always)]
-pub(crate) fn set_ints<'a>(limit: usize, items: &'a [i64]) -> Result<Judged<'a>, Fault>
+pub(crate) fn set_ints<'a>(limit: usize, items: &'a [i64]) -> Result<Judged<'a>, Stop>
     ensures { Judges words.SetInts (set limit integers (NumbersGiven items.now)) result }
 {
     check_length(limit, items.len())?;
@@ -21,7 +21,7 @@ pub(crate) fn set_ints<'a>(limit: usize, items: &'a [i64]) -> Result<Judged<'a>,
 
 #[tactic(auto, unfolding(crate::specs::Work::set))]
 #[inline(always)]
-pub(crate) fn set_bools<'a>(limit: usize, items: &'a [bool]) -> Result<Judged<'a>, Fault>
+pub(crate) fn set_bools<'a>(limit: usize, items: &'a [bool]) -> Result<Judged<'a>, Stop>
     ensures { Judges words.SetBools (set limit truths (TruthsGiven items.now)) result }
 {
     check_length(limit, items.len())?;

@@ -14,12 +14,13 @@ ghost use Rattle.cvl_calls.specs.Work.{distribute, index, index_segments, repeat
 use crate::conditions::{has_each, same_length};
 use crate::judged::Judged;
 use crate::operands::{count, ints, items, segs};
-use cvl_text::{Fault, Kind};
+use crate::stop::Stop;
+use cvl_text::Kind;
 use vector_memory::{Memory, Name};
 
 #[tactic(auto, unfolding(crate::specs::Work::repeat))]
 #[inline(always)]
-pub(crate) fn repeat_int<'a>(limit: usize, x: i64, n: i64) -> Result<Judged<'a>, Fault>
+pub(crate) fn repeat_int<'a>(limit: usize, x: i64, n: i64) -> Result<Judged<'a>, Stop>
     ensures { Judges words.DisZ (repeat limit integers (NumberGiven x) (NumberGiven n)) result }
 {
     Ok(Judged::RepeatInt(x, count(limit, n)?))
@@ -27,7 +28,7 @@ pub(crate) fn repeat_int<'a>(limit: usize, x: i64, n: i64) -> Result<Judged<'a>,
 
 #[tactic(auto, unfolding(crate::specs::Work::repeat))]
 #[inline(always)]
-pub(crate) fn repeat_bool<'a>(limit: usize, x: bool, n: i64) -> Result<Judged<'a>, Fault>
+pub(crate) fn repeat_bool<'a>(limit: usize, x: bool, n: i64) -> Result<Judged<'a>, Stop>
     ensures { Judges words.DisB (repeat limit truths (TruthGiven x) (NumberGiven n)) result }
 {
     Ok(Judged::RepeatBool(x, count(limit, n)?))
@@ -40,7 +41,7 @@ pub(crate) fn distribute<'a>(
     kind: Kind,
     a: &Name,
     s: &Name,
-) -> Result<Judged<'a>, Fault>
+) -> Result<Judged<'a>, Stop>
     ensures { Judges (words.Two (twos.DisSeg kind)) (distribute kind (Held (value_at memory.now a.now)) (Held (value_at memory.now s.now))) result }
 {
     let xs = items(memory, kind, a)?;
@@ -51,7 +52,7 @@ pub(crate) fn distribute<'a>(
 
 #[tactic(auto, unfolding(crate::specs::Work::index))]
 #[inline(always)]
-pub(crate) fn index<'a>(limit: usize, u: i64, v: i64, n: i64) -> Result<Judged<'a>, Fault>
+pub(crate) fn index<'a>(limit: usize, u: i64, v: i64, n: i64) -> Result<Judged<'a>, Stop>
     requires { limit ≤ most }
     ensures { Judges words.Ind (index limit (NumberGiven u) (NumberGiven v) (NumberGiven n)) result }
 {
@@ -65,7 +66,7 @@ pub(crate) fn index_segments<'a>(
     a: &Name,
     b: &Name,
     s: &Name,
-) -> Result<Judged<'a>, Fault>
+) -> Result<Judged<'a>, Stop>
     ensures { Judges (words.Three threes.IndSeg) (index_segments (Held (value_at memory.now a.now)) (Held (value_at memory.now b.now)) (Held (value_at memory.now s.now))) result }
 {
     let starts = ints(memory, a)?;

@@ -10,6 +10,7 @@ ghost use Rattle.cvl_calls.specs.Work.{alo, free, get, len, len_segs, make_segs,
 
 use crate::judged::Judged;
 use crate::operands::{any_value, count, ints, segs};
+use crate::stop::Stop;
 use cvl_text::Fault;
 use segment_desc::{SegFault, Segd};
 use vector_memory::laws::memories_are_lawful;
@@ -17,7 +18,7 @@ use vector_memory::{Memory, Name};
 
 #[tactic(auto, unfolding(crate::specs::Work::get))]
 #[inline(always)]
-pub(crate) fn get<'a>(memory: &'a Memory, a: &Name) -> Result<Judged<'a>, Fault>
+pub(crate) fn get<'a>(memory: &'a Memory, a: &Name) -> Result<Judged<'a>, Stop>
     ensures { Judges (words.Ask asks.Get) (get (Held (value_at memory.now a.now))) result }
 {
     Ok(Judged::Get(any_value(memory, a)?))
@@ -25,7 +26,7 @@ pub(crate) fn get<'a>(memory: &'a Memory, a: &Name) -> Result<Judged<'a>, Fault>
 
 #[tactic(auto, unfolding(crate::specs::Work::mov))]
 #[inline(always)]
-pub(crate) fn mov<'a>(memory: &'a Memory, a: &Name) -> Result<Judged<'a>, Fault>
+pub(crate) fn mov<'a>(memory: &'a Memory, a: &Name) -> Result<Judged<'a>, Stop>
     ensures { Judges (words.One ones.Mov) (mov (Held (value_at memory.now a.now))) result }
 {
     Ok(Judged::Mov(any_value(memory, a)?))
@@ -33,7 +34,7 @@ pub(crate) fn mov<'a>(memory: &'a Memory, a: &Name) -> Result<Judged<'a>, Fault>
 
 #[tactic(auto, unfolding(crate::specs::Work::free))]
 #[inline(always)]
-pub(crate) fn free<'a>(memory: &'a Memory, a: &Name) -> Result<Judged<'a>, Fault>
+pub(crate) fn free<'a>(memory: &'a Memory, a: &Name) -> Result<Judged<'a>, Stop>
     ensures { Judges (words.Ask asks.Free) (free (Held (value_at memory.now a.now))) result }
 {
     any_value(memory, a)?;
@@ -42,7 +43,7 @@ pub(crate) fn free<'a>(memory: &'a Memory, a: &Name) -> Result<Judged<'a>, Fault
 
 #[tactic(auto, unfolding(crate::specs::Work::alo))]
 #[inline(always)]
-pub(crate) fn alo<'a>(limit: usize, n: i64) -> Result<Judged<'a>, Fault>
+pub(crate) fn alo<'a>(limit: usize, n: i64) -> Result<Judged<'a>, Stop>
     ensures { Judges words.Alo (alo limit (NumberGiven n)) result }
 {
     Ok(Judged::Alo(count(limit, n)?))
@@ -50,7 +51,7 @@ pub(crate) fn alo<'a>(limit: usize, n: i64) -> Result<Judged<'a>, Fault>
 
 #[tactic(auto, unfolding(crate::specs::Work::len))]
 #[inline(always)]
-pub(crate) fn len<'a>(memory: &'a Memory, a: &Name) -> Result<Judged<'a>, Fault>
+pub(crate) fn len<'a>(memory: &'a Memory, a: &Name) -> Result<Judged<'a>, Stop>
     ensures { Judges (words.Ask asks.Len) (len (Held (value_at memory.now a.now))) result }
 {
     memories_are_lawful(memory);
@@ -60,21 +61,21 @@ pub(crate) fn len<'a>(memory: &'a Memory, a: &Name) -> Result<Judged<'a>, Fault>
 
 #[tactic(auto, unfolding(crate::specs::Work::make_segs))]
 #[inline(always)]
-pub(crate) fn make_segs<'a>(memory: &'a Memory, a: &Name) -> Result<Judged<'a>, Fault>
+pub(crate) fn make_segs<'a>(memory: &'a Memory, a: &Name) -> Result<Judged<'a>, Stop>
     ensures { Judges (words.One ones.MakeSegs) (make_segs memory.now.limit (Held (value_at memory.now a.now))) result }
 {
     memories_are_lawful(memory);
     let lengths = ints(memory, a)?;
     match Segd::judge_lengths(lengths, memory.limit()) {
         Ok(total) => Ok(Judged::MakeSegs(lengths, total)),
-        Err(SegFault::Negative) => Err(Fault::BadSegments),
-        Err(_) => Err(Fault::TooLong),
+        Err(SegFault::Negative) => Err(Stop::Fault(Fault::BadSegments)),
+        Err(_) => Err(Stop::Fault(Fault::TooLong)),
     }
 }
 
 #[tactic(auto, unfolding(crate::specs::Work::len_segs))]
 #[inline(always)]
-pub(crate) fn len_segs<'a>(memory: &'a Memory, s: &Name) -> Result<Judged<'a>, Fault>
+pub(crate) fn len_segs<'a>(memory: &'a Memory, s: &Name) -> Result<Judged<'a>, Stop>
     ensures { Judges (words.One ones.LenSegs) (len_segs (Held (value_at memory.now s.now))) result }
 {
     Ok(Judged::LenSegs(segs(memory, s)?))
