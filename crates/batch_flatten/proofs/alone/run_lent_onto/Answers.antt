@@ -10,3 +10,8 @@ pub returns-in-Ok-run_metered_lent-clause-counted : goal.returns-in-Ok-run_meter
 returns-in-Ok-run_metered_lent-clause-counted g c =
     let t = task_of c.args.call.now in
     rises-kernel (runs_kernel t.word) (is_ok (work_on (memory_of c.args.book.now) t)) c.run_metered_lent.result c.args.meter.now c.run_metered_lent.new.meter c.run_metered_lent.ensures.counted
+
+pub returns-in-Err-run_metered_lent-clause-counted : goal.returns-in-Err-run_metered_lent-clause-counted
+returns-in-Err-run_metered_lent-clause-counted g c =
+    let t = task_of c.args.call.now in
+    rises-kernel (runs_kernel t.word) (is_ok (work_on (memory_of c.args.book.now) t)) c.run_metered_lent.result c.args.meter.now c.run_metered_lent.new.meter c.run_metered_lent.ensures.counted

@@ -4,7 +4,7 @@ use Rattle.call_history.specs.Books.{BookState, memory_of}
 use Rattle.call_history.specs.declared.request.Outcome.{Outcome}
 use Rattle.batch_flatten.specs.Counts.{CountsTurn}
 use Rattle.batch_flatten.specs.declared.turn.Turn.TheVariants.{Open}
-use Rattle.batch_flatten.specs.Joining.{ArePrepared, IsReadyWork, work_at}
+use Rattle.batch_flatten.specs.Joining.{ArePrepared, AreWords, IsReadyWork, work_at}
 use Rattle.batch_flatten.specs.Places.{IsOutside}
 use Rattle.batch_flatten.specs.Serving.{Serving}
 use Rattle.batch_flatten.proofs.PlaceLemmas.{place_in}
@@ -73,3 +73,6 @@ returns-clause-counted g c =
     let has = has-work m m os c.deref.result.now ps ws c.join.new.turns c.join.new.works.items position turn c.work_for-work.result refl c.deref.ensures.value lt now c.join.ensures.prepared c.work_for-work.ensures.work in
     next-counted ws os ps position c.args.turns.now c.join.new.turns (work_at m os ps position) turn c.work_for-work.result c.args.meter.now c.join.new.meter c.serve_place.new.meter c.single.result c.requires.words lt c.requires.paired c.requires.together
     c.join.ensures.closes now has c.join.ensures.counted (subst (λ (p : ℕ). CountsTurn (slice_get os p) c.work_for-work.result c.join.new.meter c.serve_place.new.meter) c.from-place.ensures c.serve_place.ensures.counted) c.single.ensures
+
+pub join-requires-clause-words : goal.join-requires-clause-words
+join-requires-clause-words g c κs within = subst (λ (o : List Outcome). AreWords c.args.words.now o c.args.places.now) (sym c.deref.ensures.value) c.requires.words

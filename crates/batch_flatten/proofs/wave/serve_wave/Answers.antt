@@ -1,4 +1,5 @@
 use Rattle.std.proofs.Common.{arith, ◌∙◌, ◌+◌, ◌<◌, ◌++◌, ℕ, List, append-nil, length, refl, slice_index, subst, sum, sym, take}
+use Rattle.std.proofs.lemmas.List.{take_all}
 use Rattle.call_history.specs.Books.{memory_of}
 use Rattle.batch_flatten.specs.Serving.{AnswersSure, Serving}
 use Rattle.batch_flatten.specs.Counts.{different_kernels, size_at, sizes_back}
@@ -68,3 +69,9 @@ loop-position-preserved g c =
       count = next.count ∙ inv.count;
       spaces = next.spaces ∙ inv.spaces;
     }
+
+pub returns-clause-serves : goal.returns-clause-serves
+returns-clause-serves g c =
+    let all = take_all c.loop-position.position c.args.places.now c.loop-position-test.false in
+    λ line rs done by outside s.
+    subst (λ (l : List ℕ). Serving c.args.book.now.bounds line rs (done ++ l) c.loop-position.book.history c.loop-position.outcomes.items) all (c.loop-position.invariant.serves line rs done by outside s)
