@@ -1,0 +1,4 @@
+pub mod Numbers
+pub mod CallWords
+pub mod Words
+pub mod Grammar

@@ -1,0 +1,4 @@
+pub mod Forms
+pub mod Kinds
+pub mod Places
+pub mod Wrongs

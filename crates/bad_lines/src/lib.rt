@@ -1,0 +1,17 @@
+//! Why a line of a script is bad, or a text no call: the first word that is wrong, what is wrong with it, and that in words
+//! for people. The grammar itself is `cvl_text`'s.
+#![tactic(auto)]
+
+mod arguments;
+mod call;
+mod kind;
+mod number;
+mod place;
+mod reason;
+mod table;
+mod word;
+
+pub use call::why_no_call;
+pub use kind::Kind;
+pub use place::Place;
+pub use reason::{Reason, Why};
