@@ -84,7 +84,7 @@ unfolding fits wrong_behind behind_target
 behind_name edition to bad [] = elim (is_name (longest_name edition) to) as (λ b. is_none (cond b (wrong_behind edition true []) (Some bad)) ≡ false) [ true ↦ refl | false ↦ refl ]
 behind_name edition to bad (w ∷ ws) = name_step (is_name (longest_name edition) to) to _ _ _ (with_target edition to (word_of w) w ws)
 
-wrong_in-task_in : (edition : Edition) (ws : List (List ℕ)) → is_none (wrong_in edition ws) ≡ is_some (task_in edition ws)
+pub wrong_in-task_in : (edition : Edition) (ws : List (List ℕ)) → is_none (wrong_in edition ws) ≡ is_some (task_in edition ws)
 unfolding wrong_in wrong_behind task_in without_target
 wrong_in-task_in edition [] = refl
 wrong_in-task_in edition (w ∷ []) = no_target edition (word_of w) w []
@@ -96,7 +96,7 @@ wrong_in-task_in edition (w ∷ v ∷ ws) =
     choice false o other p q first second = second
 
 -- a reason is there where something is said
-none_where : (text : List ℕ) (result : Option Reason) (said : Option Wrong) → MatchOption result (said ≡ None) (IsReason text said) → is_none result ≡ is_none said
+pub none_where : (text : List ℕ) (result : Option Reason) (said : Option Wrong) → MatchOption result (said ≡ None) (IsReason text said) → is_none result ≡ is_none said
 none_where text None said h = ap is_none (sym h)
 none_where text (Some reason) said h = ap is_none (sym h.says)
 

@@ -2,3 +2,4 @@ pub mod Numbers
 pub mod CallWords
 pub mod Words
 pub mod Grammar
+pub mod LineGrammar

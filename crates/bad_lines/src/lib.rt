@@ -3,8 +3,10 @@
 #![tactic(auto)]
 
 mod arguments;
+mod block;
 mod call;
 mod kind;
+mod line;
 mod number;
 mod place;
 mod reason;
@@ -13,5 +15,6 @@ mod word;
 
 pub use call::why_no_call;
 pub use kind::Kind;
+pub use line::why_bad;
 pub use place::Place;
 pub use reason::{Reason, Why};
