@@ -3,3 +3,4 @@ pub mod CallWords
 pub mod Words
 pub mod Grammar
 pub mod LineGrammar
+pub mod Printing

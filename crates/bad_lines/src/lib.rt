@@ -5,12 +5,16 @@
 mod arguments;
 mod block;
 mod call;
+mod hint;
 mod kind;
 mod line;
+mod message;
+mod nearest;
 mod number;
 mod place;
 mod reason;
 mod table;
+mod text;
 mod word;
 
 pub use call::why_no_call;
@@ -18,3 +22,4 @@ pub use kind::Kind;
 pub use line::why_bad;
 pub use place::Place;
 pub use reason::{Reason, Why};
+pub use text::append_reason;

@@ -1,0 +1,55 @@
+//! What is added to a reason where it may help.
+
+use crate::reason::Why;
+
+fn has_byte(word: &[u8], byte: u8) -> bool {
+    word.iter().any(|b| *b == byte)
+}
+
+/// For a first word that names no caller.
+fn caller_hint(word: &[u8]) -> &'static [u8] {
+    match word {
+        b"help" | b"-h" | b"--help" | b"?" => b"; cvl --help tells what there is",
+        b"quit" | b"exit" => b"; the end of the input ends the run: Ctrl-D",
+        [b'0'..=b'9'] | [b'0'..=b'9', b'0'..=b'9'] =>
+            b"; the colon is missing, or a space stands before it",
+        [b'0'..=b'9', .., b':'] => b"; the number is 0 to 63, without needless zeros",
+        [b'0'..=b'9', ..] => b"; the colon or the space behind it is missing",
+        _ => b"",
+    }
+}
+
+/// For a word that stands where a call word is expected, and is far from one.
+fn word_hint(word: &[u8]) -> &'static [u8] {
+    if has_byte(word, b'=') {
+        return b"; spaces are missing round =";
+    }
+    match word {
+        [b'0'..=b'9', ..] | [b'-', ..] => b"; integers are set by z, as a = z 1 2",
+        b"T" | b"F" => b"; truth values are set by b, as f = b T F",
+        b"s" => b"; segment lists are made by mke_fov",
+        _ if word.iter().any(u8::is_ascii_uppercase) => b": words are written small",
+        _ => b"",
+    }
+}
+
+/// For a word that is no name.
+fn name_hint(word: &[u8]) -> &'static [u8] {
+    match word {
+        [b'0'..=b'9', ..] | [b'-', ..] => b"; a number is made a vector by dis_vuz",
+        _ => b"",
+    }
+}
+
+/// What may help.
+pub(crate) fn hint(why: Why, word: &[u8]) -> &'static [u8] {
+    match why {
+        Why::NoCaller => caller_hint(word),
+        Why::NoWord => word_hint(word),
+        Why::NoTarget => b" ..",
+        Why::NoName(_) => name_hint(word),
+        Why::NoNumber if has_byte(word, b',') => b"; spaces part the items",
+        Why::TooMany if word.first() == Some(&b'#') => b"; a comment has a line of its own",
+        _ => b"",
+    }
+}
