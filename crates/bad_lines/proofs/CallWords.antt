@@ -3,8 +3,6 @@ use Rattle.std.proofs.Common.{◌≡◌, ℕ, Bool, true, false, cond, ◌||◌,
 use Rattle.std.specs.Option.{option_map}
 use Rattle.std.specs.Cmp.Lexicographic as texts
 use Rattle.bad_lines.specs.declared.table.TheConstants.{ROWS}
-use Rattle.bad_lines.specs.declared.kind.Kind.{Kind}
-use Rattle.bad_lines.specs.declared.table.Further.{Further}
 use Rattle.cvl_text.specs.declared.word.Word.{Word}
 use Rattle.cvl_text.specs.Words.{same_text, word_text, all_words, word_of, words_of}
 use Rattle.cvl_text.proofs.WordTexts.{word_text-read, each_word}

@@ -1,6 +1,6 @@
 -- Something is wrong with the words of a text exactly where the grammar has no call for them.
 use Rattle.std.proofs.Common.{◌≡◌, ℕ, Bool, true, false, cond, List, [], ◌∷◌, Option, Some, None, refl, sym, ap, ◌∙◌}
-use Rattle.std.specs.Prelude.{MatchOption, is_none, is_some, codes, option_and_then}
+use Rattle.std.specs.Prelude.{is_none, is_some, codes, option_and_then}
 use Rattle.std.specs.Option.{option_map}
 use Rattle.vector_memory.specs.declared.edition.Edition.{Edition}
 use Rattle.vector_memory.specs.Editions.{longest_name}
@@ -10,12 +10,11 @@ use Rattle.cvl_text.specs.Lines.{ArgumentKind, NameKind, NumberKind, TruthKind, 
 use Rattle.cvl_text.specs.Numbers.{number_of}
 use Rattle.cvl_text.specs.TruthValues.{truth_of}
 use Rattle.cvl_text.specs.Words.{same_text, word_of}
-use Rattle.bad_lines.specs.declared.kind.Kind.{Kind}
 use Rattle.bad_lines.specs.declared.kind.Kind.TheVariants.{Name, Number, Truth}
 use Rattle.bad_lines.specs.declared.reason.Reason.{Reason}
 use Rattle.bad_lines.specs.Forms.{form_of_word}
 use Rattle.bad_lines.specs.Kinds.{fits}
-use Rattle.bad_lines.specs.Wrongs.{IsReason, Wrong, first_misfit, first_wrong, wrong_use, wrong_behind, wrong_in}
+use Rattle.bad_lines.specs.Wrongs.{Tells, Wrong, first_misfit, first_wrong, wrong_use, wrong_behind, wrong_in}
 
 -- what is read of a word, and what behind it
 read_step : {A B C : Type 0} (read : Option A) (here : Option C) (bad : C) (behind : A → Option B) → ((x : A) → is_none here ≡ is_some (behind x))
@@ -96,10 +95,10 @@ wrong_in-task_in edition (w ∷ v ∷ ws) =
     choice false o other p q first second = second
 
 -- a reason is there where something is said
-pub none_where : (text : List ℕ) (result : Option Reason) (said : Option Wrong) → MatchOption result (said ≡ None) (IsReason text said) → is_none result ≡ is_none said
+pub none_where : (text : List ℕ) (result : Option Reason) (said : Option Wrong) → Tells result text said → is_none result ≡ is_none said
 none_where text None said h = ap is_none (sym h)
 none_where text (Some reason) said h = ap is_none (sym h.says)
 
-pub reason_where_no_task : (text : List ℕ) (edition : Edition) (ws : List (List ℕ)) (result : Option Reason) → MatchOption result (wrong_in edition ws ≡ None) (IsReason text (wrong_in edition ws))
+pub reason_where_no_task : (text : List ℕ) (edition : Edition) (ws : List (List ℕ)) (result : Option Reason) → Tells result text (wrong_in edition ws)
     → is_none result ≡ is_some (task_in edition ws)
 reason_where_no_task text edition ws result h = none_where text result (wrong_in edition ws) h ∙ wrong_in-task_in edition ws

@@ -4,3 +4,4 @@ pub mod Words
 pub mod Grammar
 pub mod LineGrammar
 pub mod Printing
+pub mod NearWords

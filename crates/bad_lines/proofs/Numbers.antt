@@ -1,7 +1,7 @@
 -- Texts that write no number.
-use Rattle.std.proofs.Common.{◌≡◌, ℕ, false, List, Option, Some, None, ℤ, pos, negsuc, w64, FitsSigned, refl, sym, arith, rules}
-use Rattle.std.specs.Prelude.{is_some, Result, Ok, Err, true}
-use Rattle.std.specs.Str.{IsUtf8, IsAscii}
+use Rattle.std.proofs.Common.{◌≡◌, ℕ, false, List, Option, Some, None, ℤ, pos, negsuc, w64, FitsSigned, refl, sym, rules}
+use Rattle.std.specs.Prelude.{is_some, Result, Err, true}
+use Rattle.std.specs.Str.{IsUtf8}
 use Rattle.std.specs.Str.Parse.{ParsesSigned}
 use Rattle.std.proofs.Common.{subst}
 use Rattle.std.proofs.lemmas.Str.{IsUtf8-from_ascii}

@@ -1,6 +1,8 @@
 -- How near a text comes to a word.
-use Rattle.std.specs.Prelude.{ℕ, ◌+◌, nat_lt, List, [], ◌∷◌, drop, reverse, if◌then◌else◌}
+use Rattle.std.specs.Prelude.{ℕ, ◌+◌, ◌<◌, ◌≤◌, IsSome, nat_lt, List, [], ◌∷◌, drop, reverse, if◌then◌else◌}
 use Rattle.std.specs.Char.{eq_ignore_ascii_case}
+use Rattle.cvl_text.specs.declared.word.Word.{Word}
+use Rattle.cvl_text.specs.Words.{word_of, word_text}
 
 -- how many bytes agree at the front of two texts, but for capitals
 unfoldable pub agreeing : List ℕ → List ℕ → ℕ
@@ -24,3 +26,17 @@ nearest_of text word (w ∷ ws) = nearest_of text (nearer text word w) ws
 abbrev pub nearest_in : List ℕ → List ℕ → List (List (List ℕ)) → List ℕ
 nearest_in text word [] = word
 nearest_in text word (row ∷ rows) = nearest_in text (nearest_of text word row) rows
+
+-- the least agreement of a word that is near
+abbrev pub least_agreement : ℕ
+least_agreement = 3
+
+-- a call word that is near to a text, and that no other is nearer to
+pub record IsNearest (text word : List ℕ) : Type 0 where
+  pub is_word : IsSome (word_of word)
+  pub near : least_agreement ≤ agreement word text
+  pub most : (w : Word) → agreement (word_text w) text ≤ agreement word text
+
+-- no call word is near to a text
+abbrev pub IsFar : List ℕ → Type 0
+IsFar text = (w : Word) → agreement (word_text w) text < least_agreement

@@ -1,6 +1,6 @@
 -- What stands round a call word: a target or none, and which arguments.
 use Rattle.std.proofs.Common.{Bor}
-use Rattle.std.specs.Prelude.{ℕ, Bool, true, false, ◌||◌, List, [], ◌∷◌, Option, Some, None, if◌then◌else◌}
+use Rattle.std.specs.Prelude.{ℕ, Bool, false, ◌||◌, List, [], ◌∷◌, Option, Some, None, if◌then◌else◌}
 use Rattle.cvl_text.specs.declared.word.Word.{Word}
 use Rattle.cvl_text.specs.Words.{same_text, words_of}
 use Rattle.cvl_text.specs.Lines.{ArgumentKind, NameKind, NumberKind, TruthKind, NumbersKind, TruthsKind, is_targeted, kinds_of}

@@ -1,6 +1,5 @@
 -- Which lines are good at a place, and what is wrong with the others.
-use Rattle.std.specs.Prelude.{◌≡◌, ℕ, ◌+◌, ◌-◌, ◌*◌, Bool, true, false, not, ◌&&◌, ◌||◌, ◌==◌, nat_lt, nat_le, is_some, List, [], ◌∷◌, length, Option, Some, None, if◌then◌else◌, codes}
-use Rattle.vector_memory.specs.declared.edition.Edition.{Edition}
+use Rattle.std.specs.Prelude.{ℕ, ◌+◌, ◌-◌, ◌*◌, Bool, true, false, not, ◌&&◌, ◌||◌, ◌==◌, nat_lt, nat_le, is_some, List, [], ◌∷◌, length, Option, Some, None, if◌then◌else◌, codes}
 use Rattle.vector_memory.specs.declared.edition.Edition.TheVariants.{One, Two}
 use Rattle.cvl_text.specs.Words.{same_text, words_of}
 use Rattle.cvl_text.specs.Lines.{task_in}
@@ -91,11 +90,16 @@ abbrev pub told_at : Place → Option Wrong → Option Wrong
 told_at place None = None
 told_at place (Some found) = Some (record found { why = why_at place found.why (first_of found.words) })
 
+-- a call that is good is one too many where the block has as many as it may have
+abbrev pub or_full : ℕ → List (List ℕ) → Option Wrong → Option Wrong
+or_full calls ws (Some found) = Some found
+or_full calls ws None = if nat_lt calls block_limit then None else wrong FullBlock [] ws
+
 -- what is wrong with the words behind the caller's, in a block of the caller that has so many calls
 abbrev pub wrong_inside : ℕ → ℕ → List (List ℕ) → Option Wrong
 wrong_inside own calls ws =
     if is_alone (codes "}") ws then (if calls == 0 then wrong EmptyBlock [] ws else None)
-    else (if nat_lt calls block_limit then told_at (Inside own calls) (wrong_in Two ws) else wrong FullBlock [] ws)
+    else or_full calls ws (told_at (Inside own calls) (wrong_in Two ws))
 
 -- what is wrong with the words ws behind the caller's, of all the words of a line
 unfoldable pub wrong_ask : Place → ℕ → List (List ℕ) → List (List ℕ) → Option Wrong

@@ -1,5 +1,5 @@
 -- Words and where they stand.
-use Rattle.std.specs.Prelude.{◌≡◌, ℕ, ◌<◌, ◌≤◌, List, [], ◌∷◌, length, drop, take}
+use Rattle.std.specs.Prelude.{◌≡◌, ℕ, ◌<◌, ◌≤◌, List, ◌∷◌, length, drop, take}
 use Rattle.cvl_text.specs.Words.{words_of}
 use Rattle.bad_lines.specs.declared.word.Word.{Word}
 

@@ -1,5 +1,5 @@
 -- What is wrong with the words of a text that is to be a call: the first of them, from left to right.
-use Rattle.std.specs.Prelude.{◌≡◌, ℕ, ◌≤◌, Bool, true, false, List, [], ◌∷◌, Option, Some, None, length, drop, take, if◌then◌else◌, codes}
+use Rattle.std.specs.Prelude.{◌≡◌, ℕ, ◌≤◌, Bool, true, false, List, [], ◌∷◌, Option, Some, None, MatchOption, length, drop, take, if◌then◌else◌, codes}
 use Rattle.std.specs.Option.{option_map}
 use Rattle.vector_memory.specs.declared.edition.Edition.{Edition}
 use Rattle.cvl_text.specs.Words.{same_text, word_of, words_of}
@@ -87,3 +87,7 @@ pub record IsFound (text : List ℕ) (reason : Reason) : Type 0 where
 pub record IsReason (text : List ℕ) (said : Option Wrong) (reason : Reason) : Type 0 where
   pub found : IsFound text reason
   pub says : said ≡ wrong reason.why reason.call.now (words_of (drop reason.at text))
+
+-- a reason is told where something is said, and says it
+abbrev pub Tells : Option Reason → List ℕ → Option Wrong → Type 0
+Tells result text said = MatchOption result (said ≡ None) (IsReason text said)

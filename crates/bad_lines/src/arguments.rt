@@ -1,9 +1,9 @@
 //! The arguments of a call word: the first that is wrong.
 
-ghost use Rattle.std.specs.Prelude.{◌≡◌, ◌≤◌, None, length, drop, MatchOption};
+ghost use Rattle.std.specs.Prelude.{◌≡◌, ◌≤◌, length, drop};
 ghost use Rattle.cvl_text.specs.Words.{words_of};
 ghost use Rattle.bad_lines.specs.Forms.{form_of_usage};
-ghost use Rattle.bad_lines.specs.Wrongs.{IsReason, first_extra, first_misfit, first_wrong, misfit};
+ghost use Rattle.bad_lines.specs.Wrongs.{Tells, first_extra, first_misfit, first_wrong, misfit};
 
 use crate::kind::{Kind, fits};
 use crate::reason::{Reason, Why};
@@ -31,8 +31,7 @@ fn first_misfit<'a>(
     from: usize,
 ) -> Option<Reason<'a>>
     requires { from ≤ length text.now }
-    ensures { MatchOption result (first_misfit edition call.now kind (words_of (drop from text.now)) ≡ None)
-        (IsReason text.now (first_misfit edition call.now kind (words_of (drop from text.now)))) }
+    ensures { Tells result text.now (first_misfit edition call.now kind (words_of (drop from text.now))) }
 {
     let mut from = from;
     while let Some(word) = next_word(text, from) {
@@ -47,8 +46,7 @@ fn first_misfit<'a>(
 /// The first word from `from` on, where none is to stand.
 fn first_extra<'a>(call: &'a [u8], text: &'a [u8], from: usize) -> Option<Reason<'a>>
     requires { from ≤ length text.now }
-    ensures { MatchOption result (first_extra call.now (words_of (drop from text.now)) ≡ None)
-        (IsReason text.now (first_extra call.now (words_of (drop from text.now)))) }
+    ensures { Tells result text.now (first_extra call.now (words_of (drop from text.now))) }
 {
     let word = next_word(text, from)?;
     Some(Reason::of_word(word, call, Why::TooMany))
@@ -63,8 +61,7 @@ pub(crate) fn first_wrong<'a>(
     from: usize,
 ) -> Option<Reason<'a>>
     requires { from ≤ length text.now }
-    ensures { MatchOption result (first_wrong edition call.now (form_of_usage usage).arguments (words_of (drop from text.now)) ≡ None)
-        (IsReason text.now (first_wrong edition call.now (form_of_usage usage).arguments (words_of (drop from text.now)))) }
+    ensures { Tells result text.now (first_wrong edition call.now (form_of_usage usage).arguments (words_of (drop from text.now))) }
 {
     let mut from = from;
     for kind in usage.kinds {

@@ -1,9 +1,9 @@
 //! What a caller says at a place: calls, and the braces of blocks.
 
-ghost use Rattle.std.specs.Prelude.{◌≡◌, ◌≤◌, None, [], length, drop, MatchOption};
+ghost use Rattle.std.specs.Prelude.{◌≡◌, ◌≤◌, [], length, drop};
 ghost use Rattle.cvl_text.specs.Words.{words_of};
 ghost use Rattle.bad_lines.specs.GoodLines.{is_alone, no_word_at, told_at, why_at, wrong_ask, wrong_inside};
-ghost use Rattle.bad_lines.specs.Wrongs.{IsReason, wrong, wrong_in};
+ghost use Rattle.bad_lines.specs.Wrongs.{IsReason, Tells, wrong, wrong_in};
 
 use crate::call::wrong_in;
 use crate::place::Place;
@@ -70,8 +70,7 @@ fn why_at(place: Place, why: Why, word: &[u8]) -> Why
 /// What is wrong from `from` on, where a call is to stand.
 fn wrong_call_at(place: Place, edition: Edition, text: &[u8], from: usize) -> Option<Reason<'_>>
     requires { from ≤ length text.now }
-    ensures { MatchOption result (told_at place (wrong_in edition (words_of (drop from text.now))) ≡ None)
-        (IsReason text.now (told_at place (wrong_in edition (words_of (drop from text.now))))) }
+    ensures { Tells result text.now (told_at place (wrong_in edition (words_of (drop from text.now)))) }
 {
     let reason = wrong_in(edition, text, from)?;
     let why = why_at(place, reason.why, reason.found);
@@ -81,8 +80,7 @@ fn wrong_call_at(place: Place, edition: Edition, text: &[u8], from: usize) -> Op
 /// What is wrong with what a caller says in a block of edition 2 that has so many calls.
 fn wrong_inside(own: u64, calls: usize, text: &[u8], from: usize) -> Option<Reason<'_>>
     requires { from ≤ length text.now }
-    ensures { MatchOption result (wrong_inside own calls (words_of (drop from text.now)) ≡ None)
-        (IsReason text.now (wrong_inside own calls (words_of (drop from text.now)))) }
+    ensures { Tells result text.now (wrong_inside own calls (words_of (drop from text.now))) }
 {
     if is_alone(text, from, b"}") {
         return if calls == 0 {
@@ -91,23 +89,18 @@ fn wrong_inside(own: u64, calls: usize, text: &[u8], from: usize) -> Option<Reas
             None
         };
     }
-    if calls >= BLOCK_LIMIT {
-        return Some(at_next(text, from, Why::FullBlock));
+    let place = Place::Inside { caller: own, calls };
+    match wrong_call_at(place, Edition::Two, text, from) {
+        None if calls >= BLOCK_LIMIT => Some(at_next(text, from, Why::FullBlock)),
+        reason => reason,
     }
-    wrong_call_at(
-        Place::Inside { caller: own, calls },
-        Edition::Two,
-        text,
-        from,
-    )
 }
 
 /// What is wrong with what a caller says from `from` on.
 #[tactic(auto, unfolding(crate::specs::GoodLines::wrong_ask))]
 pub(crate) fn wrong_ask(place: Place, caller: u64, text: &[u8], from: usize) -> Option<Reason<'_>>
     requires { from ≤ length text.now }
-    ensures { MatchOption result (wrong_ask place caller (words_of text.now) (words_of (drop from text.now)) ≡ None)
-        (IsReason text.now (wrong_ask place caller (words_of text.now) (words_of (drop from text.now)))) }
+    ensures { Tells result text.now (wrong_ask place caller (words_of text.now) (words_of (drop from text.now))) }
 {
     match place {
         Place::First => wrong_call_at(place, Edition::One, text, from),

@@ -1,9 +1,9 @@
 //! Texts that are to be calls.
 
-ghost use Rattle.std.specs.Prelude.{◌≡◌, ◌≤◌, None, is_none, is_some, length, drop, MatchOption};
+ghost use Rattle.std.specs.Prelude.{◌≡◌, ◌≤◌, is_none, is_some, length, drop};
 ghost use Rattle.cvl_text.specs.Lines.{task_in};
 ghost use Rattle.cvl_text.specs.Words.{words_of};
-ghost use Rattle.bad_lines.specs.Wrongs.{IsReason, wrong_behind, wrong_in};
+ghost use Rattle.bad_lines.specs.Wrongs.{Tells, wrong_behind, wrong_in};
 
 use crate::arguments::first_wrong;
 use crate::kind::{Kind, fits};
@@ -16,8 +16,7 @@ use vector_memory::Edition;
 #[tactic(auto, unfolding(crate::specs::Wrongs::wrong_behind))]
 fn wrong_behind(edition: Edition, has_target: bool, text: &[u8], from: usize) -> Option<Reason<'_>>
     requires { from ≤ length text.now }
-    ensures { MatchOption result (wrong_behind edition has_target (words_of (drop from text.now)) ≡ None)
-        (IsReason text.now (wrong_behind edition has_target (words_of (drop from text.now)))) }
+    ensures { Tells result text.now (wrong_behind edition has_target (words_of (drop from text.now))) }
 {
     let Some(word) = next_word(text, from) else {
         return Some(Reason::of_end(text, b"", Why::NoCall));
@@ -36,8 +35,7 @@ fn wrong_behind(edition: Edition, has_target: bool, text: &[u8], from: usize) ->
 #[tactic(auto, unfolding(crate::specs::Wrongs::wrong_in))]
 pub(crate) fn wrong_in(edition: Edition, text: &[u8], from: usize) -> Option<Reason<'_>>
     requires { from ≤ length text.now }
-    ensures { MatchOption result (wrong_in edition (words_of (drop from text.now)) ≡ None)
-        (IsReason text.now (wrong_in edition (words_of (drop from text.now)))) }
+    ensures { Tells result text.now (wrong_in edition (words_of (drop from text.now))) }
 {
     let Some(first) = next_word(text, from) else {
         return wrong_behind(edition, false, text, from);
@@ -58,8 +56,7 @@ pub(crate) fn wrong_in(edition: Edition, text: &[u8], from: usize) -> Option<Rea
 /// word, with spaces as they come.
 pub fn why_no_call(text: &[u8], edition: Edition) -> Option<Reason<'_>>
     ensures call { is_none result ≡ is_some (task_in edition (words_of text.now)) }
-    ensures reason { MatchOption result (wrong_in edition (words_of text.now) ≡ None)
-        (IsReason text.now (wrong_in edition (words_of text.now))) }
+    ensures reason { Tells result text.now (wrong_in edition (words_of text.now)) }
 {
     wrong_in(edition, text, 0)
 }

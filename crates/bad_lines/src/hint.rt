@@ -1,5 +1,6 @@
 //! What is added to a reason where it may help.
 
+use crate::number::is_number;
 use crate::reason::Why;
 
 fn has_byte(word: &[u8], byte: u8) -> bool {
@@ -13,7 +14,7 @@ fn caller_hint(word: &[u8]) -> &'static [u8] {
         b"quit" | b"exit" => b"; the end of the input ends the run: Ctrl-D",
         [b'0'..=b'9'] | [b'0'..=b'9', b'0'..=b'9'] =>
             b"; the colon is missing, or a space stands before it",
-        [b'0'..=b'9', .., b':'] => b"; the number is 0 to 63, without needless zeros",
+        [b'0'..=b'9', .., b':'] => b"; the greatest is 63, and no zero is needless",
         [b'0'..=b'9', ..] => b"; the colon or the space behind it is missing",
         _ => b"",
     }
@@ -21,10 +22,9 @@ fn caller_hint(word: &[u8]) -> &'static [u8] {
 
 /// For a word that stands where a call word is expected, and is far from one.
 fn word_hint(word: &[u8]) -> &'static [u8] {
-    if has_byte(word, b'=') {
-        return b"; spaces are missing round =";
-    }
     match word {
+        b"=" => b"; a name is missing before it",
+        _ if has_byte(word, b'=') => b"; spaces are missing round =",
         [b'0'..=b'9', ..] | [b'-', ..] => b"; integers are set by z, as a = z 1 2",
         b"T" | b"F" => b"; truth values are set by b, as f = b T F",
         b"s" => b"; segment lists are made by mke_fov",
@@ -35,9 +35,10 @@ fn word_hint(word: &[u8]) -> &'static [u8] {
 
 /// For a word that is no name.
 fn name_hint(word: &[u8]) -> &'static [u8] {
-    match word {
-        [b'0'..=b'9', ..] | [b'-', ..] => b"; a number is made a vector by dis_vuz",
-        _ => b"",
+    if is_number(word) {
+        b"; a number is made a vector by dis_vuz"
+    } else {
+        b""
     }
 }
 

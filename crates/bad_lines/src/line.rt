@@ -1,8 +1,8 @@
 //! Lines of scripts.
 
-ghost use Rattle.std.specs.Prelude.{◌≡◌, None, is_none, MatchOption};
+ghost use Rattle.std.specs.Prelude.{◌≡◌, is_none};
 ghost use Rattle.bad_lines.specs.GoodLines.{caller_named, is_comment, is_good_line, is_head_at, no_caller, wrong_line};
-ghost use Rattle.bad_lines.specs.Wrongs.{IsReason};
+ghost use Rattle.bad_lines.specs.Wrongs.{Tells};
 
 use crate::block::wrong_ask;
 use crate::place::Place;
@@ -57,7 +57,7 @@ fn no_caller(word: &[u8]) -> Why
 /// What is wrong with a line at its place.
 #[tactic(auto, unfolding(crate::specs::GoodLines::wrong_line))]
 fn wrong_line(line: &[u8], place: Place) -> Option<Reason<'_>>
-    ensures { MatchOption result (wrong_line place line.now ≡ None) (IsReason line.now (wrong_line place line.now)) }
+    ensures { Tells result line.now (wrong_line place line.now) }
 {
     if is_head_at(place, line) {
         return None;
@@ -78,7 +78,7 @@ fn wrong_line(line: &[u8], place: Place) -> Option<Reason<'_>>
 /// Why a line is bad at its place, which is told exactly where it is bad there.
 pub fn why_bad(line: &[u8], place: Place) -> Option<Reason<'_>>
     ensures good { is_none result ≡ is_good_line place line.now }
-    ensures reason { MatchOption result (wrong_line place line.now ≡ None) (IsReason line.now (wrong_line place line.now)) }
+    ensures reason { Tells result line.now (wrong_line place line.now) }
 {
     wrong_line(line, place)
 }

@@ -49,7 +49,7 @@ pub(crate) fn message(why: Why) -> &'static [u8] {
         Why::TooLong => b"the line has more than 1048576 bytes",
         Why::NoCaller => b"names no caller: a line begins with 0: to 63: and a space",
         Why::NoHead => {
-            b"begins no head: cvl 2 is alone in the first line, with no space around it, and edition 1 has no head"
+            b"begins no head: the only one is cvl 2, alone in the first line with no space around it"
         }
         Why::NoCall => b"the line ends where a call is expected",
         Why::NoWord => b"is no call word",

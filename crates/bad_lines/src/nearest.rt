@@ -1,8 +1,8 @@
 //! The call word that comes nearest to a text.
 
-ghost use Rattle.std.specs.Prelude.{◌≡◌, ◌≤◌, [], length, map, reverse};
+ghost use Rattle.std.specs.Prelude.{◌≡◌, ◌≤◌, [], length, map, reverse, MatchOption};
 ghost use Rattle.cvl_text.specs.Words.{words_of};
-ghost use Rattle.bad_lines.specs.Agreement.{agreeing, agreement, nearer, nearest_in, nearest_of};
+ghost use Rattle.bad_lines.specs.Agreement.{IsFar, IsNearest, agreeing, agreement, nearer, nearest_in, nearest_of};
 
 use crate::table::{ROWS, Row};
 use cvl_text::next_word;
@@ -102,7 +102,9 @@ fn nearest_in(text: &[u8], rows: &'static [Row]) -> &'static [u8]
 }
 
 /// The call word that is nearest to a text, where it is near.
-pub(crate) fn nearest(text: &[u8]) -> Option<&'static [u8]> {
+pub(crate) fn nearest(text: &[u8]) -> Option<&'static [u8]>
+    ensures { MatchOption result (IsFar text.now) (λ word. IsNearest text.now word.now) }
+{
     let word = nearest_in(text, &ROWS);
     if agreement(word, text) < LEAST_AGREEMENT {
         return None;

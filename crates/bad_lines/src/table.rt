@@ -32,13 +32,14 @@ pub(crate) type Row = (&'static [u8], bool, &'static [Kind], Further);
 
 /// All call words.
 pub(crate) static ROWS: [Row; 13] = [
-    (b"z", true, &[], Further::Numbers),
-    (b"b", true, &[], Further::Truths),
     (
-        b"get fre_fov len_fov add_ruz mul_ruz max_ruz min_ruz and_ruz ior_ruz xor_ruz and_rub ior_rub \
-          xor_rub",
-        false,
-        &[Kind::Name],
+        b"add_wuz sub_wuz mul_wuz div_wuz mod_wuz max_wuz min_wuz and_wuz ior_wuz xor_wuz lsh_wuz rsh_wuz \
+          eql_wuz neq_wuz les_wuz leq_wuz grt_wuz geq_wuz and_wub ior_wub xor_wub add_sez mul_sez max_sez \
+          min_sez and_sez ior_sez xor_sez and_seb ior_seb xor_seb add_rez mul_rez max_rez min_rez and_rez \
+          ior_rez xor_rez and_reb ior_reb xor_reb dis_vez dis_veb smp_puz smp_pub bck_puz bck_pub pck_puz \
+          pck_pub pkl_leb",
+        true,
+        &[Kind::Name, Kind::Name],
         Further::Nothing,
     ),
     (
@@ -49,13 +50,10 @@ pub(crate) static ROWS: [Row; 13] = [
         Further::Nothing,
     ),
     (
-        b"add_wuz sub_wuz mul_wuz div_wuz mod_wuz max_wuz min_wuz and_wuz ior_wuz xor_wuz lsh_wuz rsh_wuz \
-          eql_wuz neq_wuz les_wuz leq_wuz grt_wuz geq_wuz and_wub ior_wub xor_wub add_sez mul_sez max_sez \
-          min_sez and_sez ior_sez xor_sez and_seb ior_seb xor_seb add_rez mul_rez max_rez min_rez and_rez \
-          ior_rez xor_rez and_reb ior_reb xor_reb dis_vez dis_veb smp_puz smp_pub bck_puz bck_pub pck_puz \
-          pck_pub pkl_leb",
-        true,
-        &[Kind::Name, Kind::Name],
+        b"get fre_fov len_fov add_ruz mul_ruz max_ruz min_ruz and_ruz ior_ruz xor_ruz and_rub ior_rub \
+          xor_rub",
+        false,
+        &[Kind::Name],
         Further::Nothing,
     ),
     (
@@ -101,6 +99,8 @@ pub(crate) static ROWS: [Row; 13] = [
         &[Kind::Name, Kind::Number, Kind::Number],
         Further::Nothing,
     ),
+    (b"z", true, &[], Further::Numbers),
+    (b"b", true, &[], Further::Truths),
 ];
 
 /// Whether a text is one of the words.

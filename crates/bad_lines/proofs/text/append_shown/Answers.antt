@@ -1,4 +1,4 @@
-use Rattle.std.proofs.Common.{◌≡◌, ℕ, [], ◌∷◌, ◌++◌, ap, ◌∙◌, get_or}
+use Rattle.std.proofs.Common.{ℕ, [], ◌∷◌, ◌++◌, ap, ◌∙◌, get_or}
 use Rattle.bad_lines.proofs.Printing.{printed_byte}
 use Rattle.bad_lines.proofs.text.append_shown.Goals as goal
 
