@@ -57,7 +57,8 @@ pub(crate) fn message(why: Why) -> &'static [u8] {
         Why::HasTarget => b"has no target, since it only replies",
         Why::NoName(edition) => no_name(edition),
         Why::NoNumber => {
-            b"is no number: an integer from -9223372036854775808 to 9223372036854775807, without + and needless zeros"
+            b"is no number: an integer from -9223372036854775808 to 9223372036854775807, without + \
+              and needless zeros"
         }
         Why::NoTruth => b"is no truth value: T or F",
         Why::Ends(kind) => missing(kind),

@@ -9,9 +9,9 @@ use vector_memory::Edition;
 /// What is wrong at one word of a text.
 #[derive(Clone, Copy, Debug)]
 pub struct Reason<'a> {
-    /// The byte at which the word begins, from 0; the end where the text ends too soon.
+    /// The byte at which the word begins, from 0; the end of the text where no word is to blame.
     pub at: usize,
-    /// The word, empty where the text ends too soon.
+    /// The word, empty where none is to blame: the text ends too soon, or is too long.
     pub found: &'a [u8],
     /// The call word whose arguments are wrong, else empty.
     pub call: &'a [u8],

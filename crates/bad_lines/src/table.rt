@@ -9,7 +9,7 @@ use crate::kind::Kind;
 use cvl_text::next_word;
 
 /// What may stand behind the arguments of a call word.
-#[derive(Clone, Copy, PartialEq, Eq)]
+#[derive(Clone, Copy)]
 pub(crate) enum Further {
     Nothing,
     Numbers,

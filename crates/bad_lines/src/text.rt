@@ -1,7 +1,8 @@
 //! Reasons in words for people.
+#![tactic(auto, using(crate::proofs::Printing::printed_nothing, crate::proofs::Printing::printed_then))]
 
-ghost use Rattle.std.specs.Prelude.{◌≡◌};
-ghost use Rattle.bad_lines.specs.Printed.{IsPrintedOn, shown};
+ghost use Rattle.std.specs.Prelude.{◌≡◌, ◌++◌, OnOk, map};
+ghost use Rattle.bad_lines.specs.Printed.{IsPrintedOn, quoted, shown, shown_word};
 
 use crate::hint::hint;
 use crate::message::{message, odd_message};
@@ -23,9 +24,9 @@ fn shown(byte: u8) -> u8
 }
 
 /// Appends a text as it is shown.
-#[tactic(auto, using(crate::proofs::Printing::printed_nothing, crate::proofs::Printing::printed_then))]
 fn append_shown(out: &mut Vec<u8>, text: &[u8]) -> Result<(), AllocError>
-    ensures { IsPrintedOn out.old.items out.new.items }
+    ensures ok { OnOk result (out.new.items ≡ out.old.items ++ map shown text.now) }
+    ensures printed { IsPrintedOn out.old.items out.new.items }
 {
     for byte in text {
         out.push(shown(*byte))?;
@@ -34,9 +35,9 @@ fn append_shown(out: &mut Vec<u8>, text: &[u8]) -> Result<(), AllocError>
 }
 
 /// Appends a word, of a long one the beginning.
-#[tactic(auto, using(crate::proofs::Printing::printed_nothing, crate::proofs::Printing::printed_then))]
 fn append_word(out: &mut Vec<u8>, word: &[u8]) -> Result<(), AllocError>
-    ensures { IsPrintedOn out.old.items out.new.items }
+    ensures ok { OnOk result (out.new.items ≡ out.old.items ++ shown_word word.now) }
+    ensures printed { IsPrintedOn out.old.items out.new.items }
 {
     if word.len() <= SHOWN_LIMIT {
         return append_shown(out, word);
@@ -46,7 +47,6 @@ fn append_word(out: &mut Vec<u8>, word: &[u8]) -> Result<(), AllocError>
     append_shown(out, b"..")
 }
 
-#[tactic(auto, using(crate::proofs::Printing::printed_nothing, crate::proofs::Printing::printed_then))]
 fn append_number(out: &mut Vec<u8>, number: u64) -> Result<(), AllocError>
     ensures { IsPrintedOn out.old.items out.new.items }
 {
@@ -55,9 +55,9 @@ fn append_number(out: &mut Vec<u8>, number: u64) -> Result<(), AllocError>
 }
 
 /// Appends the word that is wrong, in quotes, if there is one.
-#[tactic(auto, using(crate::proofs::Printing::printed_nothing, crate::proofs::Printing::printed_then))]
 fn append_found(out: &mut Vec<u8>, found: &[u8]) -> Result<(), AllocError>
-    ensures { IsPrintedOn out.old.items out.new.items }
+    ensures ok { OnOk result (out.new.items ≡ out.old.items ++ quoted found.now) }
+    ensures printed { IsPrintedOn out.old.items out.new.items }
 {
     if found.is_empty() {
         return Ok(());
@@ -69,16 +69,10 @@ fn append_found(out: &mut Vec<u8>, found: &[u8]) -> Result<(), AllocError>
 
 /// The first byte of a word that is not printable.
 fn odd_byte(word: &[u8]) -> Option<u8> {
-    for byte in word {
-        if shown(*byte) != *byte {
-            return Some(*byte);
-        }
-    }
-    None
+    word.iter().copied().find(|byte| shown(*byte) != *byte)
 }
 
 /// Appends what is wrong with a word that has such a byte.
-#[tactic(auto, using(crate::proofs::Printing::printed_nothing, crate::proofs::Printing::printed_then))]
 fn append_odd(out: &mut Vec<u8>, byte: u8) -> Result<(), AllocError>
     ensures { IsPrintedOn out.old.items out.new.items }
 {
@@ -87,7 +81,6 @@ fn append_odd(out: &mut Vec<u8>, byte: u8) -> Result<(), AllocError>
 }
 
 /// Appends what a message ends with.
-#[tactic(auto, using(crate::proofs::Printing::printed_nothing, crate::proofs::Printing::printed_then))]
 fn append_detail(out: &mut Vec<u8>, reason: &Reason<'_>) -> Result<(), AllocError>
     ensures { IsPrintedOn out.old.items out.new.items }
 {
@@ -100,7 +93,6 @@ fn append_detail(out: &mut Vec<u8>, reason: &Reason<'_>) -> Result<(), AllocErro
 }
 
 /// Appends the nearest call word, if one is near.
-#[tactic(auto, using(crate::proofs::Printing::printed_nothing, crate::proofs::Printing::printed_then))]
 fn append_nearest(out: &mut Vec<u8>, word: &[u8]) -> Result<(), AllocError>
     ensures { IsPrintedOn out.old.items out.new.items }
 {
@@ -112,7 +104,6 @@ fn append_nearest(out: &mut Vec<u8>, word: &[u8]) -> Result<(), AllocError>
 }
 
 /// Appends what may help.
-#[tactic(auto, using(crate::proofs::Printing::printed_nothing, crate::proofs::Printing::printed_then))]
 fn append_help(out: &mut Vec<u8>, why: Why, word: &[u8]) -> Result<(), AllocError>
     ensures { IsPrintedOn out.old.items out.new.items }
 {
@@ -125,7 +116,6 @@ fn append_help(out: &mut Vec<u8>, why: Why, word: &[u8]) -> Result<(), AllocErro
 }
 
 /// Appends what is wrong.
-#[tactic(auto, using(crate::proofs::Printing::printed_nothing, crate::proofs::Printing::printed_then))]
 fn append_why(out: &mut Vec<u8>, reason: &Reason<'_>) -> Result<(), AllocError>
     ensures { IsPrintedOn out.old.items out.new.items }
 {
@@ -136,9 +126,9 @@ fn append_why(out: &mut Vec<u8>, reason: &Reason<'_>) -> Result<(), AllocError>
 
 /// Appends a reason in words for people, without the line's number and without a line feed. Bytes that are not printable are
 /// shown as `?`, and of a long word its beginning. On an error a part may be written.
-#[tactic(auto, using(crate::proofs::Printing::printed_nothing, crate::proofs::Printing::printed_then))]
 pub fn append_reason(out: &mut Vec<u8>, reason: &Reason<'_>) -> Result<(), AllocError>
-    ensures { IsPrintedOn out.old.items out.new.items }
+    ensures begins { OnOk result (IsPrintedOn (out.old.items ++ quoted reason.now.found.now) out.new.items) }
+    ensures printed { IsPrintedOn out.old.items out.new.items }
 {
     append_found(out, reason.found)?;
     match odd_byte(reason.found) {
