@@ -33,24 +33,16 @@ fn word_hint(word: &[u8]) -> &'static [u8] {
     }
 }
 
-/// For a word that is no name.
-fn name_hint(word: &[u8]) -> &'static [u8] {
-    if is_number(word) {
-        b"; a number is made a vector by dis_vuz"
-    } else {
-        b""
-    }
-}
-
 /// What may help.
 pub(crate) fn hint(why: Why, word: &[u8]) -> &'static [u8] {
     match why {
+        Why::NoTarget => b" ..",
+        _ if word.first() == Some(&b'#') => b"; a comment has a line of its own",
         Why::NoCaller => caller_hint(word),
         Why::NoWord => word_hint(word),
-        Why::NoTarget => b" ..",
-        Why::NoName(_) => name_hint(word),
-        Why::NoNumber if has_byte(word, b',') => b"; spaces part the items",
-        Why::TooMany if word.first() == Some(&b'#') => b"; a comment has a line of its own",
+        Why::NoName(_) if is_number(word) => b"; a number is made a vector by dis_vuz",
+        Why::NoName(_) | Why::NoNumber | Why::NoTruth if has_byte(word, b',') =>
+            b"; spaces part words",
         _ => b"",
     }
 }
