@@ -1,5 +1,5 @@
 -- Something is wrong with the words of a text exactly where the grammar has no call for them.
-use Rattle.std.proofs.Common.{◌≡◌, ℕ, Bool, true, false, cond, List, [], ◌∷◌, Option, Some, None, refl, sym, ap, ◌∙◌}
+use Rattle.std.proofs.Common.{◌≡◌, ℕ, Bool, true, false, cond, ◌&&◌, List, [], ◌∷◌, Option, Some, None, refl, sym, ap, ◌∙◌}
 use Rattle.std.specs.Prelude.{is_none, is_some, codes, option_and_then}
 use Rattle.std.specs.Option.{option_map}
 use Rattle.vector_memory.specs.declared.edition.Edition.{Edition}
@@ -14,7 +14,7 @@ use Rattle.bad_lines.specs.declared.kind.Kind.TheVariants.{Name, Number, Truth}
 use Rattle.bad_lines.specs.declared.reason.Reason.{Reason}
 use Rattle.bad_lines.specs.Forms.{form_of_word}
 use Rattle.bad_lines.specs.Kinds.{fits}
-use Rattle.bad_lines.specs.Wrongs.{Tells, Wrong, first_misfit, first_wrong, wrong_use, wrong_behind, wrong_in}
+use Rattle.bad_lines.specs.Wrongs.{Tells, Wrong, first_misfit, first_wrong, has_byte, wrong_use, wrong_behind, wrong_in}
 
 -- what is read of a word, and what behind it
 read_step : {A B C : Type 0} (read : Option A) (here : Option C) (bad : C) (behind : A → Option B) → ((x : A) → is_none here ≡ is_some (behind x))
@@ -77,6 +77,12 @@ no_target edition None w ws = refl
 no_target edition (Some word) w ws =
     where_false (is_targeted word) _ _ _ (wrong-arguments edition w (kinds_of word) ws ∙ made (arguments_in edition (kinds_of word) ws) _)
 
+glued : (t : Bool) (bad : Wrong) (edition : Edition) (o : Option Word) (w : List ℕ) (ws : List (List ℕ))
+    → is_none (cond (t && is_none o) (Some bad) (wrong_use edition false (option_map form_of_word o) w ws)) ≡ is_some (option_and_then (λ word. untargeted edition word ws) o)
+glued true bad edition None w ws = refl
+glued true bad edition (Some word) w ws = no_target edition (Some word) w ws
+glued false bad edition o w ws = no_target edition o w ws
+
 behind_name : (edition : Edition) (to : List ℕ) (bad : Wrong) (ws : List (List ℕ))
     → is_none (cond (fits edition Name to) (wrong_behind edition true ws) (Some bad)) ≡ is_some (behind_target edition to ws)
 unfolding fits wrong_behind behind_target
@@ -88,7 +94,7 @@ unfolding wrong_in wrong_behind task_in without_target
 wrong_in-task_in edition [] = refl
 wrong_in-task_in edition (w ∷ []) = no_target edition (word_of w) w []
 wrong_in-task_in edition (w ∷ v ∷ ws) =
-    choice (same_text v (codes "=")) _ _ _ _ (behind_name edition w _ ws) (no_target edition (word_of w) w (v ∷ ws))
+    choice (same_text v (codes "=")) _ _ _ _ (behind_name edition w _ ws) (glued (has_byte v 61) _ edition (word_of w) w (v ∷ ws))
   where
     choice : {B : Type 0} (b : Bool) (o other : Option Wrong) (p q : Option B) → is_none o ≡ is_some p → is_none other ≡ is_some q → is_none (cond b o other) ≡ is_some (cond b p q)
     choice true o other p q first second = first

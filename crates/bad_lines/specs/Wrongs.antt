@@ -1,5 +1,6 @@
 -- What is wrong with the words of a text that is to be a call: the first of them, from left to right.
-use Rattle.std.specs.Prelude.{◌≡◌, ℕ, ◌≤◌, Bool, true, false, List, [], ◌∷◌, Option, Some, None, MatchOption, length, drop, take, if◌then◌else◌, codes}
+use Rattle.std.specs.Prelude.{◌≡◌, ℕ, ◌≤◌, ◌==◌, ◌&&◌, Bool, true, false, is_none, List, [], ◌∷◌, Option, Some, None, MatchOption, length, drop, take, if◌then◌else◌, codes}
+use Rattle.std.specs.List.{list_any}
 use Rattle.std.specs.Option.{option_map}
 use Rattle.vector_memory.specs.declared.edition.Edition.{Edition}
 use Rattle.cvl_text.specs.Words.{same_text, word_of, words_of}
@@ -63,14 +64,17 @@ unfoldable pub wrong_behind : Edition → Bool → List (List ℕ) → Option Wr
 wrong_behind edition targeted [] = wrong NoCall [] []
 wrong_behind edition targeted (w ∷ ws) = wrong_use edition targeted (option_map form_of_word (word_of w)) w ws
 
--- all words of the text
+abbrev pub has_byte : List ℕ → ℕ → Bool
+has_byte word byte = list_any (λ b. b == byte) word
+
+-- All words of the text. Where no call word stands first, and behind it a `=` with something at it, that is to blame.
 unfoldable pub wrong_in : Edition → List (List ℕ) → Option Wrong
 wrong_in edition [] = wrong_behind edition false []
 wrong_in edition (w ∷ []) = wrong_behind edition false (w ∷ [])
 wrong_in edition (w ∷ v ∷ ws) =
     if same_text v (codes "=")
     then (if fits edition Name w then wrong_behind edition true ws else wrong (NoName edition) [] (w ∷ v ∷ ws))
-    else wrong_behind edition false (w ∷ v ∷ ws)
+    else (if has_byte v 61 && is_none (word_of w) then wrong NoWord [] (v ∷ ws) else wrong_behind edition false (w ∷ v ∷ ws))
 
 -- the first word, if there is one
 abbrev pub first_of : List (List ℕ) → List ℕ

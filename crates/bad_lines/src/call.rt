@@ -9,7 +9,7 @@ use crate::arguments::first_wrong;
 use crate::kind::{Kind, fits};
 use crate::reason::{Reason, Why};
 use crate::table::usage_of;
-use crate::word::next_word;
+use crate::word::{has_byte, next_word};
 use vector_memory::Edition;
 
 /// What is wrong from `from` on, where a call word is to stand, with a target in front of it or without one.
@@ -44,6 +44,9 @@ pub(crate) fn wrong_in(edition: Edition, text: &[u8], from: usize) -> Option<Rea
         return wrong_behind(edition, false, text, from);
     };
     if second.bytes != b"=".as_slice() {
+        if has_byte(second.bytes, b'=') && usage_of(first.bytes).is_none() {
+            return Some(Reason::of_word(second, b"", Why::NoWord));
+        }
         return wrong_behind(edition, false, text, from);
     }
     if !fits(edition, Kind::Name, first.bytes) {

@@ -2,10 +2,7 @@
 
 use crate::number::is_number;
 use crate::reason::Why;
-
-fn has_byte(word: &[u8], byte: u8) -> bool {
-    word.iter().any(|b| *b == byte)
-}
+use crate::word::has_byte;
 
 /// For a first word that names no caller.
 fn caller_hint(word: &[u8]) -> &'static [u8] {
@@ -24,7 +21,7 @@ fn caller_hint(word: &[u8]) -> &'static [u8] {
 fn word_hint(word: &[u8]) -> &'static [u8] {
     match word {
         b"=" => b"; a name is missing before it",
-        _ if has_byte(word, b'=') => b"; spaces are missing round =",
+        _ if has_byte(word, b'=') => b"; = is a word of its own, with spaces round it",
         [b'0'..=b'9', ..] | [b'-', ..] => b"; integers are set by z, as a = z 1 2",
         b"T" | b"F" => b"; truth values are set by b, as f = b T F",
         b"s" => b"; segment lists are made by mke_fov",

@@ -3,6 +3,7 @@
 ghost use Rattle.std.specs.Prelude.{◌≡◌, ◌≤◌, ◌+◌, [], length, drop, MatchOption};
 ghost use Rattle.cvl_text.specs.Words.{skip_spaces, word_len, words_of};
 ghost use Rattle.bad_lines.specs.Places.{IsNextWord};
+ghost use Rattle.bad_lines.specs.Wrongs.{has_byte};
 
 /// A word of a text: the bytes from `at` to `end`.
 #[derive(Clone, Copy)]
@@ -53,4 +54,11 @@ pub(crate) fn next_word(text: &[u8], from: usize) -> Option<Word<'_>>
         bytes: &text[at..end],
         end,
     })
+}
+
+/// Whether a byte stands in a word.
+pub(crate) fn has_byte(word: &[u8], byte: u8) -> bool
+    ensures { result ≡ has_byte word.now byte }
+{
+    word.iter().any(|b| *b == byte)
 }

@@ -72,7 +72,7 @@ static FIRST_LINES: [(&[u8], usize, &[u8]); 36] = [
     (
         b"0: a=z 1 2",
         3,
-        b"`a=z` is no call word; spaces are missing round =",
+        b"`a=z` is no call word; = is a word of its own, with spaces round it",
     ),
     (
         b"0: a = 1 2",
@@ -88,7 +88,7 @@ static FIRST_LINES: [(&[u8], usize, &[u8]); 36] = [
     (
         b"0: a = z 1,2",
         9,
-        b"`1,2` is no number: an integer from -9223372036854775808 to 9223372036854775807, without + and needless zeros; spaces part the items",
+        b"`1,2` is no number: an integer from -9223372036854775808 to 9223372036854775807, without + and needless zeros; spaces part words",
     ),
     (
         b"0: a = z 1.5",
@@ -159,22 +159,58 @@ static FIRST_LINES: [(&[u8], usize, &[u8]); 36] = [
     (
         b"cvl 2 ",
         0,
-        b"`cvl` begins no head: the only one is cvl 2, alone in the first line with no space around it",
+        b"`cvl` begins no head: the only one is cvl 2, the whole first line with no space round it",
     ),
     (
         b"cvl 3",
         0,
-        b"`cvl` begins no head: the only one is cvl 2, alone in the first line with no space around it",
+        b"`cvl` begins no head: the only one is cvl 2, the whole first line with no space round it",
     ),
     (
         b" cvl 2",
         1,
-        b"`cvl` begins no head: the only one is cvl 2, alone in the first line with no space around it",
+        b"`cvl` begins no head: the only one is cvl 2, the whole first line with no space round it",
     ),
 ];
 
 /// The same of other lines, with the places where they stand.
-static LINES: [(&[u8], Place, usize, &[u8]); 35] = [
+static LINES: [(&[u8], Place, usize, &[u8]); 41] = [
+    (
+        b"0: a =z 1",
+        Place::First,
+        5,
+        b"`=z` is no call word; = is a word of its own, with spaces round it",
+    ),
+    (
+        b"0: a := z 1",
+        Place::First,
+        5,
+        b"`:=` is no call word; = is a word of its own, with spaces round it",
+    ),
+    (
+        b"0: a= z 1",
+        Place::First,
+        3,
+        b"`a=` is no call word; = is a word of its own, with spaces round it",
+    ),
+    (
+        b"0: d = add_wuz a, b",
+        Place::First,
+        15,
+        b"`a,` is no name: 1 to 16 of a-z, 0-9 and _, a letter first; spaces part words",
+    ),
+    (
+        b"0: a = z 1 # one",
+        Place::First,
+        11,
+        b"`#` is no number: an integer from -9223372036854775808 to 9223372036854775807, without + and needless zeros; a comment has a line of its own",
+    ),
+    (
+        b"0: get a\r",
+        Place::First,
+        7,
+        b"`a?` has a carriage return, which tr -d '\\r' takes away: byte 13",
+    ),
     (
         b"0: a = z 1\t2",
         Place::Outside(Edition::One),
@@ -209,13 +245,13 @@ static LINES: [(&[u8], Place, usize, &[u8]); 35] = [
         b"cvl 2",
         Place::Outside(Edition::Two),
         0,
-        b"`cvl` begins no head: the only one is cvl 2, alone in the first line with no space around it",
+        b"`cvl` begins no head: the only one is cvl 2, the whole first line with no space round it",
     ),
     (
         b"cvl 2",
         Place::Outside(Edition::One),
         0,
-        b"`cvl` begins no head: the only one is cvl 2, alone in the first line with no space around it",
+        b"`cvl` begins no head: the only one is cvl 2, the whole first line with no space round it",
     ),
     (
         b"0: get abcdefghijklmnopqrstuvwxyz0123456",
