@@ -10,11 +10,21 @@ use Rattle.cvl_text.specs.Words.{words_of}
 use Rattle.cvl_text.specs.Lines.{task_in}
 use Rattle.call_history.specs.Blocks.{block_limit}
 use Rattle.script_lines.specs.Scripts.{Stage, AtStart, Outside, Inside, Line, Skipped, Bad, Heads, Asks, Opens, Adds, Closes, line_limit, is_comment, is_head, is_alone, caller_named, asked, added, one_more, closed, said, said_by, line_in, plain_line, line_of, is_good, begun, stage_after_line, stage_after, memory_after_line, line_text, edition_at, edition_of}
+use Rattle.script_lines.specs.Stages.{is_start}
 use Rattle.script_lines.specs.Asks.{is_quiet}
 
 pub asked-stays : (stage : Stage) (caller : ℕ) (task : Option Task) → stage_after_line stage (asked caller task) ≡ begun stage
 asked-stays stage caller None = refl
 asked-stays stage caller (Some task) = refl
+
+-- where a script has begun, a call leaves it at its stage
+pub asked_keeps : (old new : Stage) (line : Line) (caller : ℕ) (task : Option Task) → is_start old ≡ false → line ≡ asked caller task → new ≡ stage_after_line old line → new ≡ old
+asked_keeps old new line caller task begins is goes = goes ∙ ap (stage_after_line old) is ∙ asked-stays old caller task ∙ kept old begins
+  where
+    kept : (s : Stage) → is_start s ≡ false → begun s ≡ s
+    kept AtStart e = absurd cc
+    kept (Outside edition) e = refl
+    kept (Inside own tasks) e = refl
 
 one-words : (stage : Stage) (words : List (List ℕ)) → stage_after_line stage (line_in (Outside One) words) ≡ begun stage
 one-words stage [] = refl

@@ -3,5 +3,7 @@ pub mod Asks
 pub mod Stages
 pub mod Streams
 pub mod Walks
+pub mod Handed
+pub mod Known
 pub mod Runs
 pub mod Readings

@@ -23,6 +23,11 @@ stage_of progresses.AtStart = AtStart
 stage_of (progresses.Outside edition) = Outside edition
 stage_of (progresses.Inside block) = stage_in block
 
+abbrev pub is_start : Stage → Bool
+is_start AtStart = true
+is_start (Outside edition) = false
+is_start (Inside caller tasks) = false
+
 -- what one more call makes of an open block
 abbrev pub IsAdded : Result (Unit {0}) LineFault → OpenBlock → OpenBlock → Line → Type 0
 IsAdded (Ok done) old new line = (is_quiet line ≡ true) × (stage_in new ≡ stage_after_line (stage_in old) line)

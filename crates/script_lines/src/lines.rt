@@ -17,7 +17,7 @@ use std::mem;
 ///
 /// A line is lent from the block where it lies in it; only one that began in an earlier block is joined.
 #[derive(Drop)]
-pub(crate) struct Lines {
+pub struct Lines {
     block: Block,
     /// What is read of the next line in earlier blocks.
     partial: Vec<u8>,
@@ -96,7 +96,7 @@ fn end_line(partial: &[u8], block: &mut Block) -> bool
 
 impl Lines {
     /// The lines of an input of which nothing is read.
-    pub(crate) fn new(alloc: Global) -> Result<Lines, OutOfMemory>
+    pub fn new(alloc: Global) -> Result<Lines, OutOfMemory>
         ensures { IfOk result (λ lines. lines.walk ≡ unwalked) }
     {
         Ok(Lines {
@@ -124,6 +124,13 @@ impl Lines {
         ensures { result ≡ self.now.walk.number }
     {
         self.number
+    }
+
+    /// Whether no more is to be read.
+    pub(crate) fn ended(&self) -> bool
+        ensures { result ≡ self.now.walk.ended }
+    {
+        self.ended
     }
 
     /// Why the line is not gone through.

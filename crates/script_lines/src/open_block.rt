@@ -21,7 +21,7 @@ pub struct OpenBlock {
 }
 
 impl OpenBlock {
-    ghost use Rattle.std.specs.Prelude.{[], ◌∷◌, ◌++◌, ◌≡◌, Ok, Err, Some, IfOk, OnOk, map, true};
+    ghost use Rattle.std.specs.Prelude.{[], ◌∷◌, ◌++◌, ◌≡◌, Ok, Err, Some, IfOk, OnOk, OnErr, map, true};
     ghost use Rattle.cvl_text.specs.Tasks.{task_of};
     ghost use Rattle.cvl_text.specs.Lines.{task_in};
     ghost use Rattle.cvl_text.specs.Words.{words_of};
@@ -42,8 +42,9 @@ impl OpenBlock {
 
     /// Adds the call that a text asks for, where there are not as many as a block may have.
     fn add(&mut self, alloc: Global, text: &[u8]) -> Result<(), LineFault>
-        ensures { IsAdded result self.old self.new
+        ensures added { IsAdded result self.old self.new
             (one_more (map task_of self.old.calls.items) (task_in Edition.Two (words_of text.now))) }
+        ensures kept { OnErr result (stage_in self.new ≡ stage_in self.old) }
     {
         if self.calls.len() >= BLOCK_LIMIT {
             return Err(LineFault::Bad);
@@ -57,7 +58,8 @@ impl OpenBlock {
 
     /// Gives the calls out, if there are some.
     fn close(&mut self, alloc: Global) -> Result<Option<Vec<Call>>, LineFault>
-        ensures { IsTaken result self.old self.new (closed self.old.caller (map task_of self.old.calls.items)) }
+        ensures taken { IsTaken result self.old self.new (closed self.old.caller (map task_of self.old.calls.items)) }
+        ensures kept { OnErr result (stage_in self.new ≡ stage_in self.old) }
     {
         if self.calls.is_empty() {
             return Err(LineFault::Bad);
@@ -71,7 +73,8 @@ impl OpenBlock {
         alloc: Global,
         line: &[u8],
     ) -> Result<Option<Vec<Call>>, LineFault>
-        ensures { IsTaken result self.old self.new (plain_line (stage_in self.old) line.now) }
+        ensures taken { IsTaken result self.old self.new (plain_line (stage_in self.old) line.now) }
+        ensures kept { OnErr result (stage_in self.new ≡ stage_in self.old) }
     {
         let Some((caller, text)) = ask_in(line)? else {
             return Ok(None);

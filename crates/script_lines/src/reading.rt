@@ -4,7 +4,7 @@ ghost use Rattle.std.specs.Prelude.{[], true, ◌≡◌, ◌<◌, ◌≤◌, ℕ
 ghost use Rattle.call_history.specs.Callers.{caller_limit};
 ghost use Rattle.script_lines.specs.Scripts.{AtStart};
 ghost use Rattle.script_lines.specs.Stages.{stage_of};
-ghost use Rattle.script_lines.specs.Walks.{GoesOn, IsCountable, CountsReads};
+ghost use Rattle.script_lines.specs.Walks.{unwalked, GoesOn, IsCountable, CountsReads};
 ghost use Rattle.script_lines.specs.Readings.{lists_of, AreLawful, HasRead, ReadsOn, EndsReading};
 
 use crate::ending::read_more;
@@ -50,9 +50,11 @@ pub(crate) fn read_input<R: Source>(
     alloc: Global,
     jobs: &mut Vec<Vec<Job>>,
     progress: &mut Progress,
+    lines: &mut Lines,
     reader: &mut R,
 ) -> Result<(), InputFault>
     requires none { jobs.old.items ≡ [] }
+    requires unwalked { lines.old.walk ≡ unwalked }
     requires start { stage_of progress.old ≡ AtStart }
     requires readable { R.can_read reader.old }
     ensures read { IfSome (R.rest reader.old) (λ input. EndsReading result (stage_of progress.new) (lists_of jobs.new) input (R.rest reader.new)) }
@@ -60,9 +62,6 @@ pub(crate) fn read_input<R: Source>(
     ensures few { OnOk result (vec_len jobs.new ≤ caller_limit) }
     ensures failed { result ≡ Err InputFault.Read → R.failures reader.old < R.failures reader.new }
 {
-    let Ok(mut lines) = Lines::new(alloc) else {
-        return Err(InputFault::OutOfMemory);
-    };
-    while read_next(alloc, jobs, progress, &mut lines, reader)? {}
+    while read_next(alloc, jobs, progress, lines, reader)? {}
     Ok(())
 }

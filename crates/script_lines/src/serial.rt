@@ -5,9 +5,10 @@ ghost use Rattle.vector_memory.specs.States.{IsLawfulRoom, bounds_in, empty};
 ghost use Rattle.call_history.specs.Books.{memory_of};
 ghost use Rattle.script_lines.specs.Scripts.{AtStart};
 ghost use Rattle.script_lines.specs.Stages.{stage_of};
+ghost use Rattle.script_lines.specs.Walks.{unwalked};
 ghost use Rattle.script_lines.specs.Runs.{HasEnded, CountsFailures, UnlessWrite, Runs, IsCounted};
 
-use crate::fault::{InputFault, RunFault, ServeFault};
+use crate::fault::{RunFault, ServeFault};
 use crate::lines::Lines;
 use crate::run::Run;
 use crate::streams::{Sink, Source};
@@ -20,11 +21,13 @@ fn serve_input<R: Source, W: Sink>(
     execution: &impl Execution,
     alloc: Global,
     run: &mut Run,
+    lines: &mut Lines,
     reader: &mut R,
     writer: &mut W,
 ) -> Result<(), ServeFault>
     requires start { stage_of run.old.progress ≡ AtStart }
     requires waiting { run.old.waiting.items ≡ [] }
+    requires unwalked { lines.old.walk ≡ unwalked }
     requires readable { R.can_read reader.old }
     requires writable { W.can_write writer.old }
     ensures ended { IfSome (R.rest reader.old) (λ input. HasEnded result (memory_of run.old.book) input
@@ -32,23 +35,22 @@ fn serve_input<R: Source, W: Sink>(
     ensures counted { CountsFailures result (R.failures reader.old) (R.failures reader.new) (W.failures writer.old) (W.failures writer.new) }
     ensures writable { UnlessWrite result (W.can_write writer.new) }
 {
-    let Ok(mut lines) = Lines::new(alloc) else {
-        return Err(ServeFault::Input(InputFault::OutOfMemory));
-    };
-    while run.serve_next(execution, alloc, &mut lines, reader, writer)? {}
+    while run.serve_next(execution, alloc, lines, reader, writer)? {}
     Ok(())
 }
 
-/// Runs a script on a run that has served nothing.
+/// Runs a script on a run that has served nothing, by lines of which none is gone to. They stay where a fault stopped the run.
 pub fn run_script<R: Source, W: Sink>(
     execution: &impl Execution,
     alloc: Global,
     run: &mut Run,
+    lines: &mut Lines,
     reader: &mut R,
     writer: &mut W,
 ) -> Result<(), RunFault>
     requires start { stage_of run.old.progress ≡ AtStart }
     requires waiting { run.old.waiting.items ≡ [] }
+    requires unwalked { lines.old.walk ≡ unwalked }
     requires readable { R.can_read reader.old }
     requires writable { W.can_write writer.old }
     ensures runs { IfSome (R.rest reader.old) (λ input. Runs result (memory_of run.old.book) input
@@ -56,7 +58,7 @@ pub fn run_script<R: Source, W: Sink>(
     ensures counted { IsCounted result (R.failures reader.old) (R.failures reader.new)
         (W.failures writer.old) (W.failures writer.new) }
 {
-    let ended = serve_input(execution, alloc, run, reader, writer);
+    let ended = serve_input(execution, alloc, run, lines, reader, writer);
     run.finish(ended, writer)
 }
 
@@ -83,5 +85,8 @@ pub fn run_serial<R: Source, W: Sink>(
     let Ok(mut run) = Run::new(alloc, room) else {
         return Err(RunFault::OutOfMemory);
     };
-    run_script(execution, alloc, &mut run, reader, writer)
+    let Ok(mut lines) = Lines::new(alloc) else {
+        return Err(RunFault::OutOfMemory);
+    };
+    run_script(execution, alloc, &mut run, &mut lines, reader, writer)
 }

@@ -1,6 +1,6 @@
 //! A line of a script at the stage that the script is at: what is to be done, and the stage behind it.
 
-ghost use Rattle.std.specs.Prelude.{◌≡◌, IfOk, OnOk};
+ghost use Rattle.std.specs.Prelude.{◌≡◌, IfOk, OnOk, OnErr};
 ghost use Rattle.script_lines.specs.Scripts.{Outside, AtStart, is_head, line_of, plain_line, stage_after_line, edition_at};
 ghost use Rattle.script_lines.specs.Asks.{IsDeed, IsLawfulDeed};
 ghost use Rattle.script_lines.specs.Stages.{stage_of};
@@ -41,6 +41,7 @@ fn second_edition<'a>(
     ensures deed { IsDeed result (plain_line (Outside Edition.Two) line.now) }
     ensures stage { OnOk result (stage_of progress.new
         ≡ stage_after_line (Outside Edition.Two) (plain_line (Outside Edition.Two) line.now)) }
+    ensures kept { OnErr result (stage_of progress.new ≡ stage_of progress.old) }
     ensures lawful { IfOk result IsLawfulDeed }
 {
     let Some((caller, text)) = ask_in(line)? else {
@@ -58,14 +59,16 @@ fn second_edition<'a>(
 fn begin<'a>(progress: &mut Progress, line: &'a [u8]) -> Result<Deed<'a>, LineFault>
     ensures deed { IsDeed result (line_of AtStart line.now) }
     ensures stage { OnOk result (stage_of progress.new ≡ stage_after_line AtStart (line_of AtStart line.now)) }
+    ensures kept { OnErr result (stage_of progress.new ≡ stage_of progress.old) }
     ensures lawful { IfOk result IsLawfulDeed }
 {
     if is_head(line) {
         *progress = Progress::Outside(Edition::Two);
         return Ok(Deed::Renews);
     }
+    let deed = first_edition(line)?;
     *progress = Progress::Outside(Edition::One);
-    first_edition(line)
+    Ok(deed)
 }
 
 /// Goes on by a line, and answers what is to be done at it.
@@ -79,6 +82,7 @@ pub(crate) fn step<'a>(
     ensures deed { IsDeed result (line_of (stage_of progress.old) line.now) }
     ensures stage { OnOk result (stage_of progress.new
         ≡ stage_after_line (stage_of progress.old) (line_of (stage_of progress.old) line.now)) }
+    ensures kept { OnErr result (stage_of progress.new ≡ stage_of progress.old) }
     ensures lawful { IfOk result IsLawfulDeed }
 {
     match progress {

@@ -4,13 +4,19 @@ ghost use Rattle.std.specs.Prelude.{◌≡◌, ℕ, map, string_bytes, IfSome, M
 ghost use Rattle.std.specs.Fmt.{decimal};
 ghost use Rattle.vector_memory.specs.States.{IsLawfulRoom};
 ghost use Rattle.script_main.specs.declared.mode.Mode.{Mode};
+ghost use Rattle.script_lines.specs.Scripts.{AtStart};
+ghost use Rattle.script_lines.specs.Stages.{stage_of};
+ghost use Rattle.script_lines.specs.Walks.{unwalked};
 ghost use Rattle.script_lines.specs.Runs.{IsCounted};
 ghost use Rattle.script_main.specs.Programs.{mode_word, AsksRoom, AsksRun, AsksNothing, RunsAs, HasRun, IsUsage, status_of};
 
 use crate::mode::Mode;
+use crate::no_notes::NoNotes;
 use crate::shared::run_shared;
 use scan_kernels::Execution;
-use script_lines::{Run, RunFault, Sink, Source, run_script, write_all};
+use script_lines::{
+    Lines, Progress, Run, RunFault, Sink, Source, note_fault, run_script, write_all, write_note,
+};
 use std::alloc::Global;
 use std::mem;
 use std::sync::Wait;
@@ -98,16 +104,20 @@ fn status_of(ran: &Result<(), RunFault>) -> u8
     }
 }
 
-/// Runs a script in this mode.
+/// Runs a script in this mode, by lines of which none is gone to. They and the progress stay where a fault stopped the run.
 fn run_as<R: Source, W: Sink, T: Threads + Wait + Execution<Shared = T> + Sync>(
     rt: &T,
     alloc: Global,
     mode: Mode,
     room: u64,
+    lines: &mut Lines,
+    progress: &mut Progress,
     reader: &mut R,
     writer: &mut W,
 ) -> Result<(), RunFault>
     requires room { IsLawfulRoom room }
+    requires start { stage_of progress.old ≡ AtStart }
+    requires unwalked { lines.old.walk ≡ unwalked }
     requires readable { R.can_read reader.old }
     requires writable { W.can_write writer.old }
     ensures runs { IfSome (R.rest reader.old) (λ input. RunsAs mode result room input
@@ -120,13 +130,67 @@ fn run_as<R: Source, W: Sink, T: Threads + Wait + Execution<Shared = T> + Sync>(
             let Ok(mut run) = Run::new(alloc, room) else {
                 return Err(RunFault::OutOfMemory);
             };
-            let ran = run_script(rt, alloc, &mut run, reader, writer);
+            let ran = run_script(rt, alloc, &mut run, lines, reader, writer);
+            mem::swap(progress, &mut run.progress);
             // The program ends: the system takes the book back at once, and not entry by entry.
             mem::forget(run);
             ran
         }
-        Mode::Threads => run_shared(rt, alloc, room, reader, writer),
+        Mode::Threads => run_shared(rt, alloc, room, lines, progress, reader, writer),
     }
+}
+
+/// Runs a script in this mode, and notes why it stopped, if a fault stopped it.
+fn run_noted<R: Source, W: Sink, N: Sink, T: Threads + Wait + Execution<Shared = T> + Sync>(
+    rt: &T,
+    alloc: Global,
+    mode: Mode,
+    room: u64,
+    reader: &mut R,
+    writer: &mut W,
+    notes: &mut N,
+) -> Result<(), RunFault>
+    requires room { IsLawfulRoom room }
+    requires readable { R.can_read reader.old }
+    requires writable { W.can_write writer.old }
+    requires notable { N.can_write notes.old }
+    ensures runs { IfSome (R.rest reader.old) (λ input. RunsAs mode result room input
+        (R.rest reader.new) (W.written writer.old) (W.written writer.new)) }
+    ensures counted { IsCounted result (R.failures reader.old) (R.failures reader.new)
+        (W.failures writer.old) (W.failures writer.new) }
+{
+    let Ok(mut lines) = Lines::new(alloc) else {
+        let _ = write_note(notes, &[b"out of memory"]);
+        return Err(RunFault::OutOfMemory);
+    };
+    let mut progress = Progress::AtStart;
+    let ran = run_as(
+        rt,
+        alloc,
+        mode,
+        room,
+        &mut lines,
+        &mut progress,
+        reader,
+        writer,
+    );
+    if let Err(fault) = &ran {
+        note_fault(alloc, notes, fault, &lines, &progress);
+    }
+    ran
+}
+
+/// Writes the usage line, and answers the exit status.
+fn write_usage<W: Sink, N: Sink>(writer: &mut W, notes: &mut N) -> u8
+    requires writable { W.can_write writer.old }
+    requires notable { N.can_write notes.old }
+    ensures { IsUsage result (W.written writer.old) (W.written writer.new) (W.failures writer.old) (W.failures writer.new) }
+{
+    if write_all(writer, USAGE).is_ok() {
+        return 2;
+    }
+    let _ = write_note(notes, &[b"a write of standard output failed"]);
+    4
 }
 
 /// Runs the program: `words` are its arguments, behind its name. The answer is the exit status.
@@ -152,12 +216,30 @@ pub fn run_program<R: Source, W: Sink, T: Threads + Wait + Execution<Shared = T>
         (W.written writer.old) (W.written writer.new) (W.failures writer.old) (W.failures writer.new) }
     ensures unread { AsksNothing (map string_bytes words.now) → R.rest reader.new ≡ R.rest reader.old }
 {
+    run_program_with_notes(rt, alloc, words, reader, writer, &mut NoNotes)
+}
+
+/// Runs the program as `run_program` does, and notes why it ended where a bad line, want of memory, a failed read or write, or
+/// worker threads ended it: one line, which is dropped if it cannot be written.
+pub fn run_program_with_notes<
+    R: Source,
+    W: Sink,
+    N: Sink,
+    T: Threads + Wait + Execution<Shared = T> + Sync,
+>(rt: &T, alloc: Global, words: &[String], reader: &mut R, writer: &mut W, notes: &mut N) -> u8
+    requires readable { R.can_read reader.old }
+    requires writable { W.can_write writer.old }
+    requires notable { N.can_write notes.old }
+    ensures run { (mode : Mode) (room : ℕ) → AsksRun mode (map string_bytes words.now) room → HasRun mode result room
+        (R.rest reader.old) (R.rest reader.new) (W.written writer.old) (W.written writer.new)
+        (R.failures reader.old) (R.failures reader.new) (W.failures writer.old) (W.failures writer.new) }
+    ensures usage { AsksNothing (map string_bytes words.now) → IsUsage result
+        (W.written writer.old) (W.written writer.new) (W.failures writer.old) (W.failures writer.new) }
+    ensures unread { AsksNothing (map string_bytes words.now) → R.rest reader.new ≡ R.rest reader.old }
+{
     let Some((mode, room)) = asked(words) else {
-        return match write_all(writer, USAGE) {
-            Ok(()) => 2,
-            Err(_) => 4,
-        };
+        return write_usage(writer, notes);
     };
-    let ran = run_as(rt, alloc, mode, room, reader, writer);
+    let ran = run_noted(rt, alloc, mode, room, reader, writer, notes);
     status_of(&ran)
 }

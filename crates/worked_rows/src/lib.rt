@@ -12,6 +12,8 @@ mod gates;
 #[cfg(test)]
 mod lines;
 #[cfg(test)]
+mod notes;
+#[cfg(test)]
 mod odd_bytes;
 #[cfg(test)]
 mod program;
