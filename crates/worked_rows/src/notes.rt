@@ -1,10 +1,11 @@
 //! What is said of a run besides its text: why it stopped, and why a line that was typed is left out.
 
 use crate::program::{whole, writer};
-use crate::streams::{Full, Pieces};
-use script_lines::{GoodLines, Lines, Progress, note_fault};
+use crate::streams::{Full, Pieces, Short};
+use scan_kernels::Execution;
+use script_lines::{GoodLines, Lines, Progress, Sink, Source, note_fault};
 use script_main::{ReadSource, RunFault, WriteSink, run_program_with_notes, run_serial};
-use std::alloc::Global;
+use std::alloc::{Alloc, Global};
 use std::process::Abort;
 
 /// A script, the read of it that fails and how many bytes its text may have; the exit status, the text and the note.
@@ -170,6 +171,19 @@ static TYPED: [(&[u8], &[u8], &[u8], usize); 4] = [
     ),
 ];
 
+/// Runs the good lines of a source, whose bad ones are answered. The text of the run goes behind `text`.
+fn run_typed<
+    R: Source + Drop,
+    N: Sink + Drop,
+    E: Alloc<A = Global> + Abort + Execution<Shared = E>,
+>(rt: &E, source: R, answers: N, text: &mut Short) -> Result<(), RunFault>
+    requires readable { R.can_read source }
+    requires writable { N.can_write answers }
+{
+    let mut typed = GoodLines::new(rt.alloc(), source, answers).expect(rt, "memory");
+    run_serial(rt, rt.alloc(), 4, &mut typed, &mut WriteSink::new(text))
+}
+
 /// A bad line that is typed is left out, and the run goes on.
 #[test]
 fn leaves_out_bad_lines(rt: HostRuntime) {
@@ -177,11 +191,8 @@ fn leaves_out_bad_lines(rt: HostRuntime) {
         for step in [1, 4, 1000] {
             let mut written = writer(rt.alloc(), 1000, 1000, Full::Fails);
             let mut note = writer(rt.alloc(), 1000, 1000, Full::Fails);
-            let answers = WriteSink::new(&mut note);
             let source = ReadSource::new(whole(script, step));
-            let mut typed = GoodLines::new(rt.alloc(), source, answers).expect(&rt, "memory");
-            let mut sink = WriteSink::new(&mut written);
-            let _ = run_serial(&rt, rt.alloc(), 4, &mut typed, &mut sink);
+            let _ = run_typed(&rt, source, WriteSink::new(&mut note), &mut written);
             assert!(rt; written.taken.as_slice() == *text);
             assert!(rt; note.taken.starts_with(notes));
             let lines = note.taken.iter().filter(|byte| **byte == b'\n').count();
@@ -200,10 +211,7 @@ fn answers_before_a_failed_read(rt: HostRuntime) {
         step: 15,
         fails: Some(1),
     });
-    let answers = WriteSink::new(&mut note);
-    let mut typed = GoodLines::new(rt.alloc(), source, answers).expect(&rt, "memory");
-    let mut sink = WriteSink::new(&mut text);
-    let end = run_serial(&rt, rt.alloc(), 4, &mut typed, &mut sink);
+    let end = run_typed(&rt, source, WriteSink::new(&mut note), &mut text);
     assert!(rt; end == Err(RunFault::Read));
     assert!(rt; text.taken.as_slice() == b"0 ok\n".as_slice());
     assert!(rt; note.taken.is_empty());
