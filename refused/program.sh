@@ -1,10 +1,10 @@
 #!/bin/sh
-# refused/program.sh: runs the built program on the examples, but for the long ones of every call, and on the scripts beside this
+# refused/program.sh: runs the built program, or the one that CVL_PROGRAM names, on the examples, but for the long ones of every call, and on the scripts beside this
 # file, with one growth, start of a thread, read or write refused in each run, and with each script cut at each byte. A run must
 # end with the text of some first lines and the status of what was refused; nothing may be lost or told wrongly.
 # Status 1: something was not so; 2: the program is not built; 3: nothing was tried, since there is no cc.
 cd "$(dirname "$0")/.." || exit 1
-program=$PWD/crates/cvl/out/cvl
+program=${CVL_PROGRAM:-$PWD/crates/cvl/out/cvl}
 [ -x "$program" ] || { echo "refused: $program is not built" >&2; exit 2; }
 command -v cc > /dev/null || { echo "refused: not run, since there is no cc"; exit 3; }
 made=$(mktemp -d) || exit 1

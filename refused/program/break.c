@@ -49,8 +49,11 @@ ssize_t read(int from, void *bytes, size_t count)
     return real_read(from, bytes, piece_of(count));
 }
 
+/* What is said on standard error is counted by nobody. */
 ssize_t write(int to, const void *bytes, size_t count)
 {
+    if (to != 1)
+        return real_write(to, bytes, count);
     if (refuses(WRITE)) {
         errno = ENOSPC;
         return plan->takes_none ? 0 : -1;

@@ -19,14 +19,14 @@ static int is_serial(const struct script *script)
     return !strcmp(script->mode, "serial");
 }
 
-/* Counts a run that did not end as it must, and says so. */
+/* Counts a run that did not end as it must, or that did not say why in one line where it failed, and says so. */
 static void expect(int right, const struct script *script, const char *what, long number, struct ended ended)
 {
-    if (right)
+    if (right && ended.notes == (ended.status != 0))
         return;
     wrong++;
-    printf("refused: %s in mode %s, %s %ld: status %d, %zu bytes\n", script->name, script->mode, what, number, ended.status,
-           ended.printed.length);
+    printf("refused: %s in mode %s, %s %ld: status %d, %zu bytes, %d notes\n", script->name, script->mode, what, number, ended.status,
+           ended.printed.length, ended.notes);
 }
 
 /* What is printed where only the first bytes of a script could be read: nothing in mode threads, which reads it whole first. */

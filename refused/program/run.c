@@ -12,7 +12,7 @@
 enum { SECONDS = 60 };
 
 static const char *program_path, *preloaded;
-static int plan_file, input_file, output_file;
+static int plan_file, input_file, output_file, notes_file;
 
 static void fail(const char *what)
 {
@@ -37,6 +37,7 @@ struct plan *prepare(const char *program, const char *broken)
     plan_file = memory_file("plan");
     input_file = memory_file("input");
     output_file = memory_file("output");
+    notes_file = memory_file("notes");
     if (ftruncate(plan_file, sizeof(struct plan)) < 0)
         fail("plan");
     void *plan = mmap(NULL, sizeof(struct plan), PROT_READ | PROT_WRITE, MAP_SHARED, plan_file, 0);
@@ -63,6 +64,7 @@ static void become(const char *mode)
     const char *words[] = {"cvl", mode, NULL}, *settings[] = {preloaded, NULL};
     dup2(input_file, 0);
     dup2(output_file, 1);
+    dup2(notes_file, 2);
     dup2(plan_file, PLAN_DESCRIPTOR);
     alarm(SECONDS);
     execve(program_path, (char *const *)words, (char *const *)settings);
@@ -81,17 +83,31 @@ static struct text held(int file)
     return (struct text){bytes, (size_t)length};
 }
 
+static int notes_in(struct text text)
+{
+    int notes = 0;
+    for (char *at = text.bytes, *end = at + text.length; at < end; notes++) {
+        char *feed = memchr(at, '\n', (size_t)(end - at));
+        if (!feed || feed - at < 6 || memcmp(at, "cvl: ", 5))
+            return -1;
+        at = feed + 1;
+    }
+    return notes;
+}
+
 struct ended run(const char *mode, struct text input)
 {
     int said;
     fill(input_file, input);
     fill(output_file, (struct text){"", 0});
+    fill(notes_file, (struct text){"", 0});
     pid_t child = fork();
     if (child == 0)
         become(mode);
     if (child < 0 || waitpid(child, &said, 0) < 0)
         fail("run");
-    return (struct ended){WIFEXITED(said) ? WEXITSTATUS(said) : -WTERMSIG(said), held(output_file)};
+    int notes = notes_in(held(notes_file));
+    return (struct ended){WIFEXITED(said) ? WEXITSTATUS(said) : -WTERMSIG(said), held(output_file), notes};
 }
 
 struct text bytes_of(const char *name)

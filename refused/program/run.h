@@ -7,10 +7,12 @@ struct text {
     size_t length;
 };
 
-/* How a run ended: its exit status, or the negative number of the signal that ended it, and what it printed. */
+/* How a run ended: its exit status, or the negative number of the signal that ended it, what it printed, and how many lines that begin
+   with its name it wrote to standard error, or -1 where it wrote something else there. */
 struct ended {
     int status;
     struct text printed;
+    int notes;
 };
 
 /* Makes what all runs share: the plan, which is answered, and the streams. */
