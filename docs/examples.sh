@@ -2,7 +2,7 @@
 # docs/examples.sh check|write
 # The examples in PROFILE.md's tables of calls and in ERRORS.md, as the scripts that worked_examples runs. 'write' makes
 # the scripts anew, 'check' says which of them are not what the tables have; status 1: some are not. 'check' also compares the
-# call words that ARCHITECTURE.md says are joined with those that a test of batch_flatten sees joined.
+# call words that ARCHITECTURE.md names as those that no batch joins with those that a test of batch_flatten sees run alone.
 case "$1" in
     check | write) ;;
     *) echo "usage: docs/examples.sh check|write" >&2; exit 2 ;;
@@ -26,6 +26,8 @@ function lines(cell,  parts, count, n, all) {
     return all
 }
 /^## / { part = $0 }
+# A row may do without the bars at its ends.
+/[|]/ && !/^[|]/ { $0 = "| " $0 " |" }
 '
 
 # The lines of a script that makes each call of the card, or with text=1 the text that answers it.
@@ -60,30 +62,32 @@ errors() {
     awk "$rows"'
     function put(arguments, script, text, status) { print arguments "\t" script "\t" text "\t" status }
     $2 ~ /^-/ { next }
-    part == "## Faults" && code($5, 1) != "" { put(code($5, 1), lines($6), lines($7), 0) }
+    part == "## Faults" && code($5, 1) != "" { put(code($4, 1) ~ /^serial / ? code($4, 1) : "serial", lines($5), lines($6), 0) }
     part == "## Bad lines" && code($3, 1) != "" { put("serial", code($3, 1), "bad line 1", 2) }
     part == "## Bad lines of edition 2" && code($3, 1) != "" { put("serial", lines($3), lines($4), 2); put("threads", lines($3), lines($4), 2) }
     ' ERRORS.md
 }
 
 calls "" > "$made/calls.cvl" && calls 1 > "$made/calls.out" && errors > "$made/errors.txt" || exit 1
-# Each call word of the table in ARCHITECTURE.md, and whether its calls are joined.
-told_joined() {
-    awk -F'|' '
-    /^##/ { on = /^### Which call words are joined/ }
-    on && $2 ~ /`/ {
-        count = split($2, parts, "`")
-        for (n = 2; n <= count; n += 2) print parts[n], $3 ~ /^ none/ ? "alone" : "joined"
+# The call words of the sentence in ARCHITECTURE.md that begins "The calls of all words but", each on a line.
+told_alone() {
+    awk '
+    /^The calls of all words but / { on = 1 }
+    on {
+        end = index($0, ".")
+        count = split(end ? substr($0, 1, end) : $0, parts, "`")
+        for (n = 2; n <= count; n += 2) print parts[n]
+        if (end) exit
     }' ARCHITECTURE.md | sort
 }
 
-# The same of the test's table, whose first calls run no kernel.
-seen_joined() {
+# The same of the test's table: those of its first calls.
+seen_alone() {
     awk '
     /const ALONE/ { alone = $NF + 0 }
     /const CALLS/ { on = 1; next }
     /^];/ { on = 0 }
-    on { match($0, /[a-z][a-z][a-z]_[a-z][a-z][a-z]|get/); print substr($0, RSTART, RLENGTH), ++count <= alone ? "alone" : "joined" }
+    on && count < alone { match($0, /[a-z][a-z][a-z]_[a-z][a-z][a-z]|get/); print substr($0, RSTART, RLENGTH); count++ }
     ' ../crates/batch_tests/src/table.rt | sort
 }
 
@@ -96,9 +100,9 @@ for name in calls.cvl calls.out errors.txt; do
         status=1
     fi
 done
-told_joined > "$made/told.txt" && seen_joined > "$made/seen.txt" || exit 1
+told_alone > "$made/told.txt" && seen_alone > "$made/seen.txt" || exit 1
 if ! cmp -s "$made/told.txt" "$made/seen.txt" || [ ! -s "$made/told.txt" ]; then
-    echo "the call words that ARCHITECTURE.md says are joined are not those of crates/batch_tests/src/table.rt" >&2
+    echo "the call words that ARCHITECTURE.md says are not joined are not those of crates/batch_tests/src/table.rt" >&2
     status=1
 fi
 exit $status
