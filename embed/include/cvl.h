@@ -9,7 +9,8 @@
  * None may be called from a signal handler, or in a child that was forked from a process with threads.
  *
  * Who owns what: a caller owns its part of the machine until it is closed; close every caller, the last one closes the machine.
- * What is posted is copied before the function returns, and what is read is copied out; no pointer is kept.
+ * What is posted is copied before the function returns. What is read is copied out, but for cvl_ints_at and cvl_bools_at, which show it
+ * in place. The book is the memory and its history; one caller has it at a time.
  *
  * A caller that is NULL is answered as one that is shut; no other pointer may be NULL, not even for no items. A length is in items; texts
  * need no byte 0 at the end.
@@ -107,9 +108,9 @@ typedef struct cvl_answer {
 } cvl_answer;
 
 typedef struct cvl_served {
-    uint64_t calls; /* of which a block counts as one */
-    uint64_t waves;
-    uint64_t kernels;
+    uint64_t calls;   /* of which a block counts as one */
+    uint64_t waves;   /* groups that were run one after the other */
+    uint64_t kernels; /* runs of kernels */
 } cvl_served;
 
 typedef struct cvl_closed {
@@ -300,8 +301,9 @@ static inline int32_t cvl_wait_after(cvl_caller *caller, uint32_t turns, cvl_ans
     }
 }
 
-/* Asks and serves until what was left is answered. How to wait is the program's affair, and this is one way, as the library's own callers
- * wait. A runtime defines CVL_NO_WAIT, and lets its own tasks run between two steps. */
+/* Asks and serves until what was left is answered: CVL_ANSWERED, CVL_ANSWERED_BLOCK, CVL_IDLE where nothing was left, or below 0. How to
+ * wait is the program's affair, and this is one way, as the library's own callers wait. A runtime defines CVL_NO_WAIT, and lets its own
+ * tasks run between two steps. */
 static inline int32_t cvl_wait(cvl_caller *caller, cvl_answer *answer)
 {
     return cvl_wait_after(caller, 0, answer);
