@@ -128,8 +128,8 @@ int32_t cvl_open(uint64_t room, cvl_caller *callers, size_t count);
 
 /* The call of a line, as "c = add_wuz a b"; docs/PROFILE.md has them all. CVL_BAD_CALL. */
 int32_t cvl_post(cvl_caller *caller, const char *line, size_t length);
-/* A block: the calls of the lines of a text, which take effect together or not at all. Line feeds end or part the lines. CVL_BAD_CALL,
- * CVL_BAD_COUNT. */
+/* A block: the calls of the lines of a text; no other call comes between them. A fault in one undoes none of the others; out of memory
+ * undoes all. Line feeds end or part the lines; an empty line or a carriage return is CVL_BAD_CALL. CVL_BAD_COUNT. */
 int32_t cvl_post_block(cvl_caller *caller, const char *text, size_t length);
 /* Sets a name to integers, or truth values, each 0 or 1. CVL_BAD_NAME. */
 int32_t cvl_post_ints(cvl_caller *caller, const char *name, size_t length, const int64_t *items, size_t count);
