@@ -135,7 +135,7 @@ compare() {
     status=0
     for file in cvl libcvl.a; do
         name=${prebuilt#"$here"/}/$file
-        if cmp -s "$1/$file" "$prebuilt/$file" && is_of_sources "$prebuilt" "$file" && is_whole "$prebuilt" "$file"; then
+        if cmp -s "$1/$file" "$prebuilt/$file" && is_of_sources "$prebuilt" "$file" && is_whole "$prebuilt" "$file" && [ "$(cat "$prebuilt/VERSION")" = "$(header_version)" ]; then
             say "equal: $name is what these sources make"
         else
             say "not equal: $name is not what these sources make: its sum is $(sum_of "$prebuilt/$file"), theirs is $(sum_of "$1/$file")"
